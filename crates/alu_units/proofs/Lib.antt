@@ -1,0 +1,7 @@
+pub mod IntegersLemmas
+pub mod HalvesLemmas
+pub mod WordsLemmas
+pub mod ProductsLemmas
+pub mod StagesLemmas
+pub mod QuotientLemmas
+pub mod DivisionLemmas

@@ -1,0 +1,20 @@
+//! The arithmetic units of a MicroBlaze core (UG984), each equal to its equation.
+//!
+//! Operands come in the order of the instructions: `a` is rA, `b` is rB or the immediate.
+#![tactic(auto)]
+
+mod divider;
+mod faults;
+mod kinds;
+mod products;
+mod shifts;
+#[cfg(test)]
+mod tests;
+mod words;
+
+pub use divider::{Divider, Quotient, divide};
+pub use faults::DivFault;
+pub use kinds::{LogicKind, MulKind, ShiftKind};
+pub use products::multiply;
+pub use shifts::{Shifted, barrel, sra, src, srl};
+pub use words::{adder, compare, logic, pattern, pcmpeq, pcmpne, sext8, sext16};

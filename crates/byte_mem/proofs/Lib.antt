@@ -1,0 +1,6 @@
+mod Accesses
+mod Joined
+mod Numbers
+mod OneWord
+pub mod Overwriting
+pub mod Storing

@@ -1,0 +1,55 @@
+//! The four bytes of a word, by the place that each has in it.
+ghost use Rattle.byte_mem.specs.Access.{bytes_of, encoded, number, overwritten};
+ghost use Rattle.std.specs.Prelude.{slice_range, ◌≡◌, ◌+◌, ◌≤◌};
+
+use core_regs::{Order, Size};
+
+/// The number that `size` bytes from place `at` on stand for.
+pub(crate) fn read_lanes(word: [u8; 4], at: usize, size: Size, order: Order) -> u32
+    requires { at + bytes_of size ≤ 4 }
+    ensures { result ≡ number order size (slice_range word at (at + bytes_of size)) }
+{
+    match (size, order) {
+        (Size::Byte, _) => u32::from(word[at]),
+        (Size::Half, Order::Big) => u32::from(u16::from_be_bytes([word[at], word[at + 1]])),
+        (Size::Half, Order::Little) => u32::from(u16::from_le_bytes([word[at], word[at + 1]])),
+        (Size::Word, Order::Big) => u32::from_be_bytes(word),
+        (Size::Word, Order::Little) => u32::from_le_bytes(word),
+    }
+}
+
+/// Writes the low bytes of `value` from place `at` on.
+pub(crate) fn write_lanes(word: &mut [u8; 4], at: usize, size: Size, order: Order, value: u32)
+    requires { at + bytes_of size ≤ 4 }
+    ensures { word.new ≡ overwritten word.old at (encoded order size value) }
+{
+    match size {
+        Size::Byte => word[at] = (value & 0xFF) as u8,
+        Size::Half => {
+            let [first, second] = half_bytes(order, (value & 0xFFFF) as u16);
+            word[at] = first;
+            word[at + 1] = second;
+        }
+        Size::Word => *word = word_bytes(order, value),
+    }
+}
+
+/// The bytes of a half, in the order of their addresses.
+fn half_bytes(order: Order, half: u16) -> [u8; 2]
+    ensures { result ≡ encoded order Size.Half half }
+{
+    match order {
+        Order::Big => half.to_be_bytes(),
+        Order::Little => half.to_le_bytes(),
+    }
+}
+
+/// The bytes of a word, in the order of their addresses.
+fn word_bytes(order: Order, word: u32) -> [u8; 4]
+    ensures { result ≡ encoded order Size.Word word }
+{
+    match order {
+        Order::Big => word.to_be_bytes(),
+        Order::Little => word.to_le_bytes(),
+    }
+}

@@ -1,0 +1,5 @@
+pub mod Apart
+pub mod Firsts
+pub mod Loadable
+pub mod Loaded
+pub mod Shared

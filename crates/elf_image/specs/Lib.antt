@@ -1,0 +1,4 @@
+pub mod Elf
+pub mod Fields
+pub mod Ranges
+pub mod Tests

@@ -1,0 +1,73 @@
+ghost use Rattle.std.specs.Prelude.{◌≡◌, ◌≤◌, ◌*◌, false, length, IfNone};
+ghost use Rattle.elf_image.specs.Fields.{e_phnum, e_phoff};
+ghost use Rattle.elf_image.specs.Tests.{first_failing, has_magic, header_tests, passes};
+
+use crate::fault::Fault;
+use crate::field::{file_half, file_word};
+
+const ELFCLASS32: u8 = 1;
+
+const ELFDATA2LSB: u8 = 1;
+
+const ELFDATA2MSB: u8 = 2;
+
+const EV_CURRENT: u8 = 1;
+
+const ET_EXEC: u16 = 2;
+
+const EM_MICROBLAZE: u16 = 189;
+
+const EM_MICROBLAZE_OLD: u16 = 0xBAAB;
+
+fn begins_as_elf(file: &[u8]) -> bool
+    ensures { result ≡ has_magic file.now }
+{
+    file.starts_with(b"\x7FELF")
+}
+
+/// Whether `count` bytes from a place on pass an end.
+pub fn passes_end(end: u64, from: u32, count: u32) -> bool
+    ensures { result ≡ passes end from count }
+{
+    count > 0 && end < u64::from(from) + u64::from(count)
+}
+
+/// The first test of the header that fails.
+#[tactic(auto, unfolding(crate::specs::Tests::header_tests))]
+pub fn header_fault(file: &[u8]) -> Option<Fault>
+    ensures first { result ≡ first_failing (header_tests file.now) }
+    ensures header { IfNone result (52 ≤ length file.now) }
+    ensures within { IfNone result (passes (length file.now) (e_phoff file.now) (32 * e_phnum file.now) ≡ false) }
+{
+    if !begins_as_elf(file) {
+        return Some(Fault { code: 701, at: 0 });
+    }
+    if file.len() < 52 {
+        return Some(Fault { code: 706, at: 0 });
+    }
+    if file[4] != ELFCLASS32 || !(file[5] == ELFDATA2LSB || file[5] == ELFDATA2MSB) {
+        return Some(Fault { code: 702, at: 4 });
+    }
+    if file[6] != EV_CURRENT || file_word(file, 20) != u32::from(EV_CURRENT) {
+        return Some(Fault { code: 703, at: 6 });
+    }
+    if file_half(file, 16) != ET_EXEC {
+        return Some(Fault { code: 704, at: 16 });
+    }
+    let machine = file_half(file, 18);
+    if !(machine == EM_MICROBLAZE || machine == EM_MICROBLAZE_OLD) {
+        return Some(Fault { code: 705, at: 18 });
+    }
+    let count = file_half(file, 44);
+    if count != 0 && file_half(file, 42) != 32 {
+        return Some(Fault { code: 707, at: 42 });
+    }
+    let start = file_word(file, 28);
+    if passes_end(file.len() as u64, start, 32 * u32::from(count)) {
+        return Some(Fault {
+            code: 706,
+            at: start,
+        });
+    }
+    None
+}

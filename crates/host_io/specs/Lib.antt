@@ -1,0 +1,6 @@
+pub mod Names
+pub mod Outside
+pub mod MemFiles
+pub mod Sure
+pub mod Planned
+pub mod Real

@@ -1,0 +1,4 @@
+mod NeverWait
+mod Fitting
+mod Telling
+mod Placing

@@ -1,0 +1,137 @@
+-- Each act that is due is told by its actions.
+use Rattle.std.specs.Prelude.{◌≡◌, ℕ, Bool, true, false, Option, Some, None, option_to_list, if◌then◌else◌}
+use Rattle.std.proofs.Common.{refl, ap, subst, ◌∙◌}
+use Rattle.axi_link.specs.declared.item.Item.{Item}
+use Rattle.core_regs.specs.declared.registers.Arch.{Arch}
+use Rattle.core_regs.specs.declared.causes.StopCause.{StopCause}
+use Rattle.core_regs.specs.declared.causes.Take.{Take}
+use Rattle.core_regs.specs.State.{bare}
+use Rattle.isa_step.specs.declared.acts.Action.{Action}
+use Rattle.isa_step.specs.declared.acts.Action.TheVariants.{Got, Sent, Seen, Room, Missed, Read, ReadRefused, Wrote, WriteRefused, Took}
+use Rattle.isa_step.specs.Shown.{Shown}
+use Rattle.isa_step.specs.Deeds.{View, Deed, Due, Does, Waits, Sleeps, Ends, Stops, Want, Goes, Homes, Gets, Puts, Reads, Writes}
+use Rattle.isa_step.specs.Due.{awake, by_item, by_room, due_by, due_with, here_of, is_closed, reply, take_due}
+use Rattle.isa_step.specs.History.{IsTold, answered, deed_by, deed_told, took}
+use Rattle.isa_step.specs.Wants.{operands_of, wants}
+use Rattle.isa_step.proofs.Fitting.{IsFit, HasItem, HasRoom, MissedBy, wants_fit}
+
+-- what an outcome says of the actions of its act, where it is one
+abbrev IsToldBy : Want → Due → Type 0
+IsToldBy w (Does d) = (answered w (option_to_list d.action) ≡ Some d) × (took (option_to_list d.action) ≡ None)
+IsToldBy w _ = Unit {0}
+
+quiet : (w : Want) (d : Deed) (o : Option Action) → d.action ≡ o → (answered w (option_to_list o) ≡ Some d) → took (option_to_list o) ≡ None → IsToldBy w (Does d)
+quiet w d o e p q = (ap (λ x. answered w (option_to_list x)) e ∙ p, ap (λ x. took (option_to_list x)) e ∙ q)
+
+item_told : (port : ℕ) (item : Item → Deed) (empty : Option Deed) (x : Item) (o : Option Action) → (item x).action ≡ o → HasItem x o → IsToldBy (Gets port item empty) (Does (item x))
+item_told port item empty x (Some (Got p y)) e h = quiet (Gets port item empty) (item x) (Some (Got p y)) e (ap (λ z. Some (item z)) h) refl
+item_told port item empty x (Some (Seen p y)) e h = quiet (Gets port item empty) (item x) (Some (Seen p y)) e (ap (λ z. Some (item z)) h) refl
+item_told port item empty x None e h = elim h [ ]
+item_told port item empty x (Some (Took t)) e h = elim h [ ]
+item_told port item empty x (Some (Sent p y)) e h = elim h [ ]
+item_told port item empty x (Some (Room p)) e h = elim h [ ]
+item_told port item empty x (Some (Missed p f)) e h = elim h [ ]
+item_told port item empty x (Some (Read p y)) e h = elim h [ ]
+item_told port item empty x (Some (ReadRefused p)) e h = elim h [ ]
+item_told port item empty x (Some (Wrote p y)) e h = elim h [ ]
+item_told port item empty x (Some (WriteRefused p y)) e h = elim h [ ]
+
+empty_told : (port : ℕ) (item : Item → Deed) (d : Deed) (o : Option Action) → d.action ≡ o → MissedBy o → IsToldBy (Gets port item (Some d)) (Does d)
+empty_told port item d (Some (Missed p f)) e h = quiet (Gets port item (Some d)) d (Some (Missed p f)) e refl refl
+empty_told port item d None e h = elim h [ ]
+empty_told port item d (Some (Took t)) e h = elim h [ ]
+empty_told port item d (Some (Got p y)) e h = elim h [ ]
+empty_told port item d (Some (Seen p y)) e h = elim h [ ]
+empty_told port item d (Some (Sent p y)) e h = elim h [ ]
+empty_told port item d (Some (Room p)) e h = elim h [ ]
+empty_told port item d (Some (Read p y)) e h = elim h [ ]
+empty_told port item d (Some (ReadRefused p)) e h = elim h [ ]
+empty_told port item d (Some (Wrote p y)) e h = elim h [ ]
+empty_told port item d (Some (WriteRefused p y)) e h = elim h [ ]
+
+full_told : (port : ℕ) (room : Deed) (d : Deed) (o : Option Action) → d.action ≡ o → MissedBy o → IsToldBy (Puts port room (Some d)) (Does d)
+full_told port room d (Some (Missed p f)) e h = quiet (Puts port room (Some d)) d (Some (Missed p f)) e refl refl
+full_told port room d None e h = elim h [ ]
+full_told port room d (Some (Took t)) e h = elim h [ ]
+full_told port room d (Some (Got p y)) e h = elim h [ ]
+full_told port room d (Some (Seen p y)) e h = elim h [ ]
+full_told port room d (Some (Sent p y)) e h = elim h [ ]
+full_told port room d (Some (Room p)) e h = elim h [ ]
+full_told port room d (Some (Read p y)) e h = elim h [ ]
+full_told port room d (Some (ReadRefused p)) e h = elim h [ ]
+full_told port room d (Some (Wrote p y)) e h = elim h [ ]
+full_told port room d (Some (WriteRefused p y)) e h = elim h [ ]
+
+room_told : (port : ℕ) (room : Deed) (full : Option Deed) (o : Option Action) → room.action ≡ o → HasRoom o → IsToldBy (Puts port room full) (Does room)
+room_told port room full (Some (Sent p y)) e h = quiet (Puts port room full) room (Some (Sent p y)) e refl refl
+room_told port room full (Some (Room p)) e h = quiet (Puts port room full) room (Some (Room p)) e refl refl
+room_told port room full None e h = elim h [ ]
+room_told port room full (Some (Took t)) e h = elim h [ ]
+room_told port room full (Some (Got p y)) e h = elim h [ ]
+room_told port room full (Some (Seen p y)) e h = elim h [ ]
+room_told port room full (Some (Missed p f)) e h = elim h [ ]
+room_told port room full (Some (Read p y)) e h = elim h [ ]
+room_told port room full (Some (ReadRefused p)) e h = elim h [ ]
+room_told port room full (Some (Wrote p y)) e h = elim h [ ]
+room_told port room full (Some (WriteRefused p y)) e h = elim h [ ]
+
+by_item_told : (port : ℕ) (item : Item → Deed) (empty : Option Deed) (o : Option Item) → IsFit (Gets port item empty) → IsToldBy (Gets port item empty) (by_item port item empty o)
+by_item_told port item empty (Some x) h = item_told port item empty x ((item x).action) refl (h.0 x)
+by_item_told port item (Some d) None h = empty_told port item d (d.action) refl h.1
+by_item_told port item None None h = tt
+
+by_room_told : (port : ℕ) (room : Deed) (full : Option Deed) (b : Bool) → IsFit (Puts port room full) → IsToldBy (Puts port room full) (by_room port room full b)
+by_room_told port room full true h = room_told port room full (room.action) refl h.0
+by_room_told port room (Some d) false h = full_told port room d (d.action) refl h.1
+by_room_told port room None false h = tt
+
+home_told : (d : Deed) (b : Bool) → d.action ≡ None → IsToldBy (Homes d) (if b then Ends else Does d)
+home_told d true h = tt
+home_told d false h = quiet (Homes d) d None h refl refl
+
+word_told : (addr : ℕ) (answer : Option ℕ → Deed) (o : Option ℕ) → IsFit (Reads addr answer) → IsToldBy (Reads addr answer) (Does (answer o))
+word_told addr answer (Some w) h = quiet (Reads addr answer) (answer (Some w)) (Some (Read addr w)) (h.0 w) refl refl
+word_told addr answer None h = quiet (Reads addr answer) (answer None) (Some (ReadRefused addr)) h.1 refl refl
+
+write_told : (addr word : ℕ) (answer : Bool → Deed) (b : Bool) → IsFit (Writes addr word answer) → IsToldBy (Writes addr word answer) (Does (answer b))
+write_told addr word answer true h = quiet (Writes addr word answer) (answer true) (Some (Wrote addr word)) h.0 refl refl
+write_told addr word answer false h = quiet (Writes addr word answer) (answer false) (Some (WriteRefused addr word)) h.1 refl refl
+
+reply_told : (a : Arch) (w : Want) (s : Shown) → IsFit w → IsToldBy w (reply a w s)
+reply_told a (Goes d) s h = quiet (Goes d) d None h refl refl
+reply_told a (Homes d) s h = home_told d (is_closed a s.hopes) h
+reply_told a (Gets port item empty) s h = by_item_told port item empty (s.first port) h
+reply_told a (Puts port room full) s h = by_room_told port room full (s.room port) h
+reply_told a (Reads addr answer) s h = word_told addr answer (s.bus_word addr) h
+reply_told a (Writes addr word answer) s h = write_told addr word answer (s.bus_takes addr word) h
+
+-- the same of the act that is due, whatever take comes first
+abbrev DeedTold : View → Due → Type 0
+DeedTold v (Does d) = deed_told v (option_to_list d.action) ≡ Some d
+DeedTold v _ = Unit {0}
+
+of_want : (v : View) (o : Due) → IsToldBy (wants (here_of v) (operands_of (here_of v) v.arch.regs) (bare v.arch) v.memory) o → DeedTold v o
+unfolding deed_told
+of_want v (Does d) h = ap (deed_by v (option_to_list d.action)) h.1 ∙ h.0
+of_want v (Waits port full) h = tt
+of_want v Sleeps h = tt
+of_want v Ends h = tt
+of_want v (Stops cause) h = tt
+
+awake_told : (v : View) (s : Shown) (b : Bool) → DeedTold v (awake (here_of v) (operands_of (here_of v) v.arch.regs) (bare v.arch) v.memory s b)
+awake_told v s true = tt
+awake_told v s false =
+    let w = wants (here_of v) (operands_of (here_of v) v.arch.regs) (bare v.arch) v.memory in
+    of_want v (reply (bare v.arch) w s) (reply_told (bare v.arch) w s (wants_fit (here_of v) (operands_of (here_of v) v.arch.regs) (bare v.arch) v.memory))
+
+due_told : (v : View) (s : Shown) (t : Option Take) (c : Option StopCause) → DeedTold v (due_by (here_of v) (operands_of (here_of v) v.arch.regs) (bare v.arch) v.memory s t c)
+unfolding deed_told
+due_told v s t (Some cause) = tt
+due_told v s (Some t) None = refl
+due_told v s None None = awake_told v s v.arch.asleep
+
+pub is_told : IsTold
+unfolding due_with
+is_told = record {
+  told = λ v s deed e. subst (DeedTold v) e (due_told v s (take_due (here_of v) (bare v.arch) s) v.arch.stopped);
+}

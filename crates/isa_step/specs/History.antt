@@ -1,0 +1,72 @@
+-- The view after a number of acts, told by what the acts did at the ports.
+use Rattle.std.specs.Prelude.{◌≡◌, ℕ, zero, suc, Bool, true, false, List, ◌∷◌, Option, Some, None, option_to_list}
+use Rattle.axi_link.specs.declared.item.Item.{Item}
+use Rattle.core_regs.specs.State.{bare}
+use Rattle.core_regs.specs.declared.causes.Take.{Take}
+use Rattle.isa_step.specs.declared.acts.Action.{Action}
+use Rattle.isa_step.specs.declared.acts.Action.TheVariants.{Took, Got, Sent, Seen, Room, Missed, Read, ReadRefused, Wrote, WriteRefused}
+use Rattle.isa_step.specs.Shown.{Shown}
+use Rattle.isa_step.specs.Deeds.{View, Deed, Does, Want, Goes, Homes, Gets, Puts, Reads, Writes, after}
+use Rattle.isa_step.specs.Due.{due, here_of, takes}
+use Rattle.isa_step.specs.Wants.{operands_of, wants}
+
+-- the answers that the actions of an act hold: an item, room, a word of the bus, or that the bus took a word
+abbrev pub told_item : (Item → Deed) → Option Deed → List Action → Option Deed
+told_item item empty (Got port x ∷ rest) = Some (item x)
+told_item item empty (Seen port x ∷ rest) = Some (item x)
+told_item item empty (Missed port full ∷ rest) = empty
+told_item item empty _ = None
+
+abbrev pub told_room : Deed → Option Deed → List Action → Option Deed
+told_room room full (Sent port x ∷ rest) = Some room
+told_room room full (Room port ∷ rest) = Some room
+told_room room full (Missed port is_full ∷ rest) = full
+told_room room full _ = None
+
+abbrev pub told_word : (Option ℕ → Deed) → List Action → Option Deed
+told_word answer (Read addr word ∷ rest) = Some (answer (Some word))
+told_word answer (ReadRefused addr ∷ rest) = Some (answer None)
+told_word answer _ = None
+
+abbrev pub told_write : (Bool → Deed) → List Action → Option Deed
+told_write answer (Wrote addr word ∷ rest) = Some (answer true)
+told_write answer (WriteRefused addr word ∷ rest) = Some (answer false)
+told_write answer _ = None
+
+-- the act of an instruction with these answers; undefined where they lack one that it asks for
+abbrev pub answered : Want → List Action → Option Deed
+answered (Goes deed) actions = Some deed
+answered (Homes deed) actions = Some deed
+answered (Gets port item empty) actions = told_item item empty actions
+answered (Puts port room full) actions = told_room room full actions
+answered (Reads addr answer) actions = told_word answer actions
+answered (Writes addr word answer) actions = told_write answer actions
+
+abbrev pub took : List Action → Option Take
+took (Took t ∷ rest) = Some t
+took _ = None
+
+abbrev pub deed_by : View → List Action → Option Take → Option Deed
+deed_by v actions (Some t) = Some (takes (bare v.arch) t)
+deed_by v actions None = answered (wants (here_of v) (operands_of (here_of v) v.arch.regs) (bare v.arch) v.memory) actions
+
+-- the act that did these actions
+unfoldable pub deed_told : View → List Action → Option Deed
+deed_told v actions = deed_by v actions (took actions)
+
+abbrev pub view_after : View → Option Deed → Option View
+view_after v None = None
+view_after v (Some deed) = Some (after v deed)
+
+abbrev pub one_more : List Action → Option View → Option View
+one_more actions None = None
+one_more actions (Some v) = view_after v (deed_told v actions)
+
+-- the view after so many acts, where the act of each number did these actions at the ports
+unfoldable pub state_after : View → (ℕ → List Action) → ℕ → Option View
+state_after v responses zero = Some v
+state_after v responses (suc k) = one_more (responses k) (state_after v responses k)
+
+-- each act that is due is told by its actions, so the view after it is too
+pub record IsTold : Type 0 where
+  pub told : (v : View) (s : Shown) (deed : Deed) → due v s ≡ Does deed → deed_told v (option_to_list deed.action) ≡ Some deed

@@ -1,0 +1,14 @@
+pub mod Shown
+pub mod Kinds
+pub mod Deeds
+pub mod Arithmetic
+pub mod Special
+pub mod Branches
+pub mod Loads
+pub mod Links
+pub mod Wants
+pub mod Due
+pub mod Performing
+pub mod Resting
+pub mod History
+pub mod Benches

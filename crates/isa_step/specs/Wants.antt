@@ -1,0 +1,167 @@
+-- What each instruction asks of the outside: the one place that knows instructions.
+use Rattle.std.specs.Prelude.{ℕ, ◌%◌, ◌&&◌, ◌==◌, Bool, true, false, List, Option, Some, None, is_some, is_none, not, if◌then◌else◌}
+use Rattle.core_regs.specs.declared.registers.Arch.{Arch}
+use Rattle.core_regs.specs.declared.causes.StopCause.TheVariants as stop
+use Rattle.core_regs.specs.State.{reg}
+use Rattle.alu_units.specs.Units.{compared, first_equal_byte, logic_of, product_of, shifted, sign_extended}
+use Rattle.delay_imm.specs.Slots.{advanced, branched, immediate_of}
+use Rattle.trap_entry.specs.declared.cause.Cause.TheVariants.{InstrBus, Illegal as IllegalWord}
+use Rattle.mb_decode.specs.declared.instruction.Instr.{Instr}
+use Rattle.isa_step.specs.declared.acts.Act.TheVariants as acts
+use Rattle.isa_step.specs.declared.acts.Here.{Here}
+use Rattle.isa_step.specs.declared.acts.Late.{Late}
+use Rattle.isa_step.specs.declared.acts.Latency.{Latency}
+use Rattle.isa_step.specs.declared.acts.Latency.TheVariants as latency
+use Rattle.isa_step.specs.declared.acts.Operands.{Operands}
+use Rattle.isa_step.specs.declared.supplying.Given.{Given}
+use Rattle.isa_step.specs.declared.kinds.Kind.{Kind}
+use Rattle.isa_step.specs.declared.kinds.Kind.TheVariants.{Add, Rsub, Compare, Multiply, Shift, Divide, Logic, FirstEqualByte, IsEqual, ShiftByOne, ExtendSign, Cache, MoveFrom, MoveToMsr, SetMsr, ClearMsr, Branch, Break, BranchIf, Return, Prefix, Barrier, Load, Store, Get, Put}
+use Rattle.isa_step.specs.declared.kinds.Second.{Second}
+use Rattle.isa_step.specs.declared.kinds.Second.TheVariants.{Register, Immediate, Count}
+use Rattle.isa_step.specs.Kinds.{kind_of, second_of}
+use Rattle.isa_step.specs.Deeds.{Deed, Want, Goes, Homes, retires, yields, stops, faults}
+use Rattle.isa_step.specs.Arithmetic.{adds, subtracts, divides, equality, shifts_by_one, bits_of}
+use Rattle.isa_step.specs.Special.{special_value, moves_to_msr, sets_msr, clears_msr, holds_prefix, barrier}
+use Rattle.isa_step.specs.Branches.{branches, breaks_off, branches_if, holds, returns}
+use Rattle.isa_step.specs.Loads.{loads, stores}
+use Rattle.isa_step.specs.Links.{gets, puts, is_nonblocking, is_atomic}
+
+-- the act of an instruction that asks nothing of the outside
+unfoldable pub deed_of : Kind → Given → Arch → Deed
+deed_of (Add with_carry keep) g a = adds g a with_carry keep
+deed_of (Rsub with_carry keep) g a = subtracts g a with_carry keep
+deed_of (Compare signed) g a = yields g a (compared g.a g.b signed)
+deed_of (Multiply k) g a = yields g a (product_of k g.a g.b)
+deed_of (Shift k) g a = yields g a (shifted k g.a (g.b % 32))
+deed_of (Divide signed) g a = divides g a signed
+deed_of (Logic k) g a = yields g a (logic_of k g.a g.b)
+deed_of FirstEqualByte g a = yields g a (first_equal_byte g.a g.b)
+deed_of (IsEqual wanted) g a = yields g a (equality g wanted)
+deed_of (ShiftByOne top) g a = shifts_by_one g a top
+deed_of (ExtendSign part) g a = yields g a (sign_extended (bits_of part) g.a)
+deed_of (MoveFrom special) g a = yields g a (special_value a special)
+deed_of MoveToMsr g a = moves_to_msr g a
+deed_of SetMsr g a = sets_msr g a
+deed_of ClearMsr g a = clears_msr g a
+deed_of (Branch absolute delayed linked) g a = branches g a absolute delayed linked
+deed_of Break g a = breaks_off g a
+deed_of (BranchIf condition delayed) g a = branches_if g a delayed (holds condition g.a)
+deed_of (Return from) g a = returns g a from
+deed_of Prefix g a = holds_prefix g a
+deed_of Barrier g a = barrier g a
+-- the cache instructions do nothing; loads, stores and links stand below
+deed_of _ g a = retires g (advanced a false) None None
+
+-- what an instruction asks
+unfoldable pub effect : Kind → Given → Arch → List ℕ → Want
+effect (Load size) g a m = loads g a m size
+effect (Store size) g a m = stores g a m size
+effect (Get dynamic) g a m = gets g a dynamic
+effect (Put dynamic) g a m = puts g a dynamic
+effect kind g a m = Goes (deed_of kind g a)
+
+-- how soon its register can be used
+unfoldable pub latency_of : Kind → Option Latency
+latency_of (Multiply k) = Some latency.Multiply
+latency_of (Shift k) = Some latency.Multiply
+latency_of (Load size) = Some latency.Load
+latency_of (Get dynamic) = Some latency.Load
+latency_of (Store size) = None
+latency_of (Put dynamic) = None
+latency_of Cache = None
+latency_of MoveToMsr = None
+latency_of (BranchIf condition delayed) = None
+latency_of (Return from) = None
+latency_of Prefix = None
+latency_of Barrier = None
+latency_of _ = Some latency.Single
+
+abbrev pub late_at : ℕ → Option Latency → Option Late
+late_at rd None = None
+late_at rd (Some l) = if rd == 0 then None else Some (record { reg = rd; latency = l })
+
+-- the second operand
+abbrev pub second_value : Second → Arch → Instr → Operands → ℕ
+second_value Register a i o = o.b
+second_value Immediate a i o = immediate_of a.prefix i.imm
+second_value Count a i o = i.imm
+
+-- an instruction with the values of its operands
+unfoldable pub given : Instr → Operands → Arch → Given
+given i o a = record {
+  rd = i.rd;
+  a = o.a;
+  b = second_value (second_of i.op) a i o;
+  d = o.d;
+  imm = i.imm;
+  flags = i.flags;
+  late = late_at i.rd (latency_of (kind_of i.op));
+}
+
+-- branches, returns, breaks, imm and mbar do not belong into a slot
+abbrev pub belongs_into_slot : Kind → Bool
+belongs_into_slot (Branch absolute delayed linked) = false
+belongs_into_slot Break = false
+belongs_into_slot (BranchIf condition delayed) = false
+belongs_into_slot (Return from) = false
+belongs_into_slot Prefix = false
+belongs_into_slot Barrier = false
+belongs_into_slot _ = true
+
+abbrev pub is_link : Kind → Bool
+is_link (Get dynamic) = true
+is_link (Put dynamic) = true
+is_link _ = false
+
+-- a link access that does not wait is an illegal word on a network board
+abbrev pub is_banned : Instr → Kind → Bool → Bool
+is_banned i kind network = network && is_link kind && is_nonblocking i.flags
+
+abbrev pub illegal : Arch → ℕ → Want
+illegal a word = Goes (faults a IllegalWord (stop.Illegal word) None)
+
+-- an instruction in its place, or in a slot that it does not belong into
+abbrev pub wants_kind : Kind → Instr → ℕ → Operands → Arch → List ℕ → Want
+wants_kind kind i word o a m =
+    if is_banned i kind a.network then illegal a word
+    else if is_some a.slot && not (belongs_into_slot kind) then Goes (stops a (stop.Slot word) None)
+    else effect kind (given i o a) a m
+
+abbrev pub wants_instr : Option Instr → ℕ → Operands → Arch → List ℕ → Want
+wants_instr None word o a m = illegal a word
+wants_instr (Some i) word o a m = wants_kind (kind_of i.op) i word o a m
+
+-- the branch to itself, with which a program ends
+abbrev pub is_end : ℕ → Arch → Bool
+is_end word a = (word == 0xB800_0000) && is_none a.prefix && is_none a.slot
+
+-- that word done as the branch that it is
+abbrev pub comes_home : Arch → Deed
+comes_home a = record {
+  arch = branched a a.pc false;
+  action = None;
+  done = record { act = acts.Retired; write = None; store = None; late = None; jumped = true };
+}
+
+-- what the word at pc asks; where there is none, the fault is that of the instruction bus
+unfoldable pub wants : Option Here → Operands → Arch → List ℕ → Want
+wants None o a m = Goes (faults a InstrBus (stop.InstrBus a.pc) None)
+wants (Some here) o a m = if is_end here.word a then Homes (comes_home a) else wants_instr here.instr here.word o a m
+
+-- a link access with the letter a holds takes off
+abbrev pub is_atomic_instr : Option Instr → Bool
+is_atomic_instr None = false
+is_atomic_instr (Some i) = is_link (kind_of i.op) && is_atomic i.flags
+
+abbrev pub is_atomic_here : Option Here → Bool
+is_atomic_here None = false
+is_atomic_here (Some here) = is_atomic_instr here.instr
+
+-- the values of the registers that an instruction names
+abbrev pub operands_by : Option Instr → List ℕ → Operands
+operands_by None regs = record { a = 0; b = 0; d = 0 }
+operands_by (Some i) regs = record { a = reg regs i.ra; b = reg regs i.rb; d = reg regs i.rd }
+
+abbrev pub operands_of : Option Here → List ℕ → Operands
+operands_of None regs = record { a = 0; b = 0; d = 0 }
+operands_of (Some here) regs = operands_by here.instr regs

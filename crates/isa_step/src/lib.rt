@@ -1,0 +1,32 @@
+//! One act of a MicroBlaze core: the nine rules that decide it, and the effect of each instruction (UG984).
+#![tactic(auto)]
+
+mod acts;
+mod arithmetic;
+mod bench;
+mod branching;
+mod executing;
+mod idling;
+mod kinds;
+mod laws;
+mod linking;
+mod loading;
+mod ports;
+mod retiring;
+mod special;
+mod stepping;
+mod supplying;
+#[cfg(test)]
+mod tests;
+
+pub use acts::{
+    Act, Action, Breaks, BusError, Done, Here, Hopes, Idle, Late, Latency, Operands, Outcome, Step,
+    Store,
+};
+pub use bench::BenchPorts;
+pub use idling::{idle, idle_at};
+pub use kinds::{Condition, Kind, Return, Second, Special, TopBit, Width, kind_of, second_of};
+pub use laws::{acts_are_told, slots_agree};
+pub use ports::{Ports, Sees};
+pub use stepping::{act, here_at, is_atomic_here, is_closed, met, perform, perform_here, take_due};
+pub use supplying::{Given, latency_of, read_operands, supply};

@@ -1,0 +1,306 @@
+//! The one act that is due.
+
+ghost use Rattle.std.specs.Prelude.{◌≡◌, ◌≤◌, ◌+◌, IfSome, List, ℕ, None};
+ghost use Rattle.core_regs.specs.State.{bare};
+ghost use Rattle.mb_decode.specs.Meaning.{NamesRegisters};
+ghost use Rattle.isa_step.specs.Deeds.{Does, Homes, faults};
+ghost use Rattle.isa_step.specs.Due.{due, due_with, here_at, is_closed, is_masked, met, pick, reply, take_due, takes};
+ghost use Rattle.isa_step.specs.Kinds.{kind_of};
+ghost use Rattle.isa_step.specs.Performing.{Makes, Names, NamesOf, Performed, Stepped};
+ghost use Rattle.isa_step.specs.Wants.{belongs_into_slot, comes_home, is_atomic_here, is_banned, is_end, is_link, wants, wants_kind};
+
+use crate::acts::{Act, Done, Here, Hopes, Idle, Operands, Outcome, Step};
+use crate::executing::execute;
+use crate::kinds::{Kind, kind_of};
+use crate::linking::{is_atomic, is_nonblocking};
+use crate::ports::{Ports, Sees};
+use crate::retiring::{exceptions_on, raise, stop};
+use crate::supplying::{read_operands, supply};
+use byte_mem::Memory;
+use core_regs::{Arch, Msr, Size, StopCause, Take};
+use delay_imm::{branch, may_take};
+use mb_decode::{Instr, decode};
+use trap_entry::{Cause, divert};
+
+/// The word that ends a program, the branch to itself `bri 0`.
+const END: u32 = 0xB800_0000;
+
+/// A fault of the instruction itself: it is raised, or stops the core.
+fn faults(a: &mut Arch, cause: &Cause, why: StopCause) -> Done
+    ensures names { NamesOf result }
+    ensures makes { Makes (faults (bare a.old) cause.now why None) result a.old a.new }
+{
+    if exceptions_on(a) {
+        raise(a, cause)
+    } else {
+        stop(a, why)
+    }
+}
+
+/// Whether an instruction may stand in the slot of a branch.
+pub fn belongs_into_slot(kind: Kind) -> bool
+    ensures { result ≡ belongs_into_slot kind }
+{
+    !matches!(
+        kind,
+        Kind::Branch { .. }
+            | Kind::Break
+            | Kind::BranchIf { .. }
+            | Kind::Return(_)
+            | Kind::Prefix
+            | Kind::Barrier
+    )
+}
+
+pub fn is_link(kind: Kind) -> bool
+    ensures { result ≡ is_link kind }
+{
+    matches!(kind, Kind::Get { .. } | Kind::Put { .. })
+}
+
+/// Whether an instruction is an illegal word on a network board.
+pub fn is_banned(i: &Instr, kind: Kind, network: bool) -> bool
+    ensures { result ≡ is_banned i.now kind network }
+{
+    network && is_link(kind) && is_nonblocking(i.flags)
+}
+
+/// An instruction in its place, or in a slot that it doesn't belong into.
+fn do_instr<P: Ports>(
+    i: &Instr,
+    word: u32,
+    o: &Operands,
+    a: &mut Arch,
+    m: &mut Memory,
+    p: &mut P,
+) -> Outcome
+    requires registers { NamesRegisters i.now }
+    requires spare { 1 ≤ P.spare p.old }
+    ensures names { Names result }
+    ensures performs { Performed P.done P.spare P.leaves (reply (bare a.old) (wants_kind (kind_of i.now.op) i.now word o.now (bare a.old) m.old) (P.shows p.old)) result a.old m.old p.old a.new m.new p.new }
+{
+    let kind = kind_of(i.op);
+    if is_banned(i, kind, a.network) {
+        return Outcome::Did(faults(a, &Cause::Illegal, StopCause::Illegal(word)));
+    }
+    if a.slot.is_some() && !belongs_into_slot(kind) {
+        return Outcome::Did(stop(a, StopCause::Slot(word)));
+    }
+    let given = supply(i, kind, o, a);
+    execute(kind, &given, a, m, p)
+}
+
+pub fn is_end(word: u32, a: &Arch) -> bool
+    ensures { result ≡ is_end word a.now }
+{
+    word == END && a.prefix.is_none() && a.slot.is_none()
+}
+
+fn is_masked(a: &Arch) -> bool
+    ensures { result ≡ is_masked a.now }
+{
+    a.has(Msr::BIP) || a.has(Msr::EIP)
+}
+
+/// Whether no take can come any more.
+#[tactic(auto, unfolding(crate::specs::Due::is_closed))]
+pub fn is_closed(a: &Arch, hopes: Hopes) -> bool
+    ensures { result ≡ is_closed (bare a.now) hopes }
+{
+    let masked = is_masked(a);
+    !hopes.nonmaskable
+        && (!hopes.maskable || masked)
+        && (!hopes.interrupt || !a.has(Msr::IE) || masked)
+}
+
+/// The word that ends a program: the core has ended, or the word is done as the branch that it is.
+fn come_home<P: Ports>(a: &mut Arch, p: &P) -> Outcome
+    ensures names { Names result }
+    ensures performs { (m : List ℕ) → Performed P.done P.spare P.leaves (reply (bare a.old) (Homes (comes_home (bare a.old))) (P.shows p.now)) result a.old m p.now a.new m p.now }
+{
+    if is_closed(a, p.hopes()) {
+        return Outcome::Idle(Idle::Ended);
+    }
+    let here = a.pc;
+    branch(a, here, false);
+    Outcome::Did(Done {
+        act: Act::Retired,
+        write: None,
+        store: None,
+        late: None,
+        jumped: true,
+    })
+}
+
+/// The word at pc.
+#[tactic(auto, unfolding(crate::specs::Wants::wants))]
+fn do_here<P: Ports>(
+    here: &Option<Here>,
+    o: &Operands,
+    a: &mut Arch,
+    m: &mut Memory,
+    p: &mut P,
+) -> Outcome
+    requires registers { IfSome here.now (λ here. IfSome here.instr NamesRegisters) }
+    requires spare { 1 ≤ P.spare p.old }
+    ensures names { Names result }
+    ensures performs { Performed P.done P.spare P.leaves (reply (bare a.old) (wants here.now o.now (bare a.old) m.old) (P.shows p.old)) result a.old m.old p.old a.new m.new p.new }
+{
+    let Some(here) = here else {
+        let pc = a.pc;
+        return Outcome::Did(faults(a, &Cause::InstrBus, StopCause::InstrBus(pc)));
+    };
+    if is_end(here.word, a) {
+        return come_home(a, p);
+    }
+    match &here.instr {
+        Some(i) => do_instr(i, here.word, o, a, m, p),
+        None => Outcome::Did(faults(a, &Cause::Illegal, StopCause::Illegal(here.word))),
+    }
+}
+
+/// Whether the word at pc is a link access with the letter `a`, before which nothing is taken.
+pub fn is_atomic_here(here: &Option<Here>) -> bool
+    ensures { result ≡ is_atomic_here here.now }
+{
+    match here {
+        Some(Here { instr: Some(i), .. }) => is_link(kind_of(i.op)) && is_atomic(i.flags),
+        _ => false,
+    }
+}
+
+fn pick(nonmaskable: bool, maskable: bool, interrupt: bool) -> Option<Take>
+    ensures { result ≡ pick nonmaskable maskable interrupt }
+{
+    if nonmaskable {
+        Some(Take::NonMaskable)
+    } else if maskable {
+        Some(Take::Break)
+    } else if interrupt {
+        Some(Take::Interrupt)
+    } else {
+        None
+    }
+}
+
+/// The interrupt or break that is taken now.
+#[tactic(auto, unfolding(crate::specs::Due::take_due))]
+pub fn take_due<P: Sees>(here: &Option<Here>, a: &Arch, p: &P) -> Option<Take>
+    ensures { result ≡ take_due here.now (bare a.now) (P.shows p.now) }
+{
+    if !may_take(a, is_atomic_here(here)) {
+        return None;
+    }
+    let breaks = p.breaks();
+    let open = !is_masked(a);
+    pick(
+        breaks.nonmaskable,
+        breaks.maskable && open,
+        p.line() && a.has(Msr::IE) && open,
+    )
+}
+
+/// Takes an interrupt or a break.
+fn take<P: Ports>(t: Take, a: &mut Arch, p: &mut P) -> Outcome
+    requires { 1 ≤ P.spare p.old }
+    ensures names { Names result }
+    ensures performs { (m : List ℕ) → Performed P.done P.spare P.leaves (Does (takes (bare a.old) t)) result a.old m p.old a.new m p.new }
+{
+    p.took(t);
+    let link = divert(a, t);
+    Outcome::Did(Done {
+        act: Act::Took(t),
+        write: Some(link),
+        store: None,
+        late: None,
+        jumped: false,
+    })
+}
+
+/// Does the one act that is due by the word at pc and the values of its operands, or nothing where none is. It changes
+/// all of the core but its registers, and answers what is left to write.
+#[tactic(auto, unfolding(crate::specs::Due::due_with))]
+pub fn act<P: Ports>(
+    here: &Option<Here>,
+    o: &Operands,
+    a: &mut Arch,
+    m: &mut Memory,
+    p: &mut P,
+) -> Outcome
+    requires registers { IfSome here.now (λ here. IfSome here.instr NamesRegisters) }
+    requires spare { 1 ≤ P.spare p.old }
+    ensures names { Names result }
+    ensures performs { Performed P.done P.spare P.leaves (due_with here.now o.now (bare a.old) m.old (P.shows p.old)) result a.old m.old p.old a.new m.new p.new }
+{
+    if let Some(cause) = a.stopped {
+        return Outcome::Idle(Idle::Stopped(cause));
+    }
+    match take_due(here, a, p) {
+        Some(t) => take(t, a, p),
+        None => {
+            if a.asleep {
+                Outcome::Idle(Idle::Asleep)
+            } else {
+                do_here(here, o, a, m, p)
+            }
+        }
+    }
+}
+
+/// A word and what it means.
+pub fn met(word: Option<u32>) -> Option<Here>
+    ensures here { result ≡ met word }
+    ensures registers { IfSome result (λ here. IfSome here.instr NamesRegisters) }
+{
+    match word {
+        Some(word) => Some(Here {
+            word,
+            instr: decode(word),
+        }),
+        None => None,
+    }
+}
+
+/// The word at pc, where pc is a multiple of four that lies in memory, and what it means.
+#[tactic(auto, unfolding(crate::specs::Due::here_at))]
+pub fn here_at(a: &Arch, m: &Memory) -> Option<Here>
+    ensures here { result ≡ here_at (bare a.now) m.now }
+    ensures registers { IfSome result (λ here. IfSome here.instr NamesRegisters) }
+{
+    if a.pc % 4 != 0 {
+        return None;
+    }
+    match m.read(a.pc, Size::Word, a.order) {
+        Ok(word) => met(Some(word)),
+        Err(_) => None,
+    }
+}
+
+/// Does the one act that is due, `here` being the word at pc and what it means, or answers why none is and changes
+/// nothing.
+pub fn perform_here<P: Ports>(here: &Option<Here>, a: &mut Arch, m: &mut Memory, p: &mut P) -> Step
+    requires here { here.now ≡ here_at (bare a.old) m.old }
+    requires registers { IfSome here.now (λ here. IfSome here.instr NamesRegisters) }
+    requires spare { 1 ≤ P.spare p.old }
+    ensures step { Stepped P.done P.spare P.leaves (due (record { arch = a.old; memory = m.old }) (P.shows p.old)) result (record { arch = a.old; memory = m.old }) p.old (record { arch = a.new; memory = m.new }) p.new }
+    ensures spare { P.spare p.old ≤ P.spare p.new + 1 }
+{
+    let operands = read_operands(here, &a.regs);
+    match act(here, &operands, a, m, p) {
+        Outcome::Did(done) => {
+            a.write_back(done.write);
+            Step::Did(done.act)
+        }
+        Outcome::Idle(idle) => Step::Idle(idle),
+    }
+}
+
+/// Does the one act that is due, or answers why none is and changes nothing.
+pub fn perform<P: Ports>(a: &mut Arch, m: &mut Memory, p: &mut P) -> Step
+    requires { 1 ≤ P.spare p.old }
+    ensures step { Stepped P.done P.spare P.leaves (due (record { arch = a.old; memory = m.old }) (P.shows p.old)) result (record { arch = a.old; memory = m.old }) p.old (record { arch = a.new; memory = m.new }) p.new }
+    ensures spare { P.spare p.old ≤ P.spare p.new + 1 }
+{
+    let here = here_at(a, m);
+    perform_here(&here, a, m, p)
+}

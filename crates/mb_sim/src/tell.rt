@@ -1,0 +1,48 @@
+// The line that a status writes to the error stream.
+ghost use Rattle.std.specs.Prelude.{◌≡◌, ◌+◌, ◌≤◌, length};
+ghost use Rattle.mb_sim.specs.Lines.{line_with, told};
+ghost use Rattle.mb_sim.specs.Top.{IsTold};
+
+use crate::status::Status;
+use host_io::{LongText, Sink};
+use std::alloc::Global;
+
+/// Writes the line of a status, where it has one. What the stream answers is let go.
+pub fn tell<E: Sink>(alloc: Global, err: &mut E, status: &Status)
+    ensures { IsTold (E.state err.old) (E.state err.new) (told status.now) }
+{
+    let line = line_of(status);
+    if !line.as_bytes().is_empty() {
+        let _ = err.write_all(alloc, line.as_bytes());
+    }
+}
+
+/// The line of a status, or the empty text where the command ran.
+fn line_of(status: &Status) -> LongText
+    ensures { result ≡ told status.now }
+{
+    match status {
+        Status::Ended | Status::Waiting | Status::Stopped | Status::CyclesSpent => LongText::new(),
+        Status::Usage => line_with(b"usage", b"", b""),
+        Status::ReadFault { file } => line_with(b"cannot read ", file.as_bytes(), b""),
+        Status::WriteFault { file } => line_with(b"cannot write ", file.as_bytes(), b""),
+        Status::NoMemory => line_with(b"no memory", b"", b""),
+        Status::TooLong { file } => line_with(b"", file.as_bytes(), b" is too long"),
+    }
+}
+
+/// The line of the program that says this.
+fn line_with(before: &[u8], shown: &[u8], after: &[u8]) -> LongText
+    requires before { length before.now ≤ 32 }
+    requires shown { length shown.now ≤ 64 }
+    requires after { length after.now ≤ 32 }
+    ensures { result ≡ line_with before.now shown.now after.now }
+{
+    let mut line = LongText::new();
+    line.push(b"mbsim: ");
+    line.push(before);
+    line.push(shown);
+    line.push(after);
+    line.push(b"\n");
+    line
+}
