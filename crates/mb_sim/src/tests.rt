@@ -79,46 +79,32 @@ const PUT_FIVE: &[u8] = &[0x30, 0x60, 0, 5, 0x6C, 3, 0x80, 0, 0xB8, 0, 0, 0];
 
 #[test]
 fn runs_end_as_they_should(rt: HostRuntime) -> Result<(), Fail> {
-    let rest = [0xB8, 0, 0, 0];
-    let rest_later = [0x30, 0x60, 0, 5, 0xB8, 0, 0, 0];
     let full = Vec::from_elem(rt.alloc(), 0, 65_536)?;
-    let item: &[u8] = b"0 00000005\n";
-    let rows = [
+    let five: &[u8] = b"0 00000005\n";
+    // The cycles, the image, the status and what is printed.
+    let rows: [(&str, &[u8], u8, &[u8]); 8] = [
         // The item is sent in cycle 1, leaves in cycle 2, and the board is still at cycle 3.
-        Row {
-            printed: item,
-            ..Row::of(&["raw", "image", "10"], PUT_FIVE)
-        },
-        Row {
-            printed: item,
-            ..Row::of(&["raw", "image", "0000003"], PUT_FIVE)
-        },
-        Row {
-            code: 3,
-            ..Row::of(&["raw", "image", "2"], PUT_FIVE)
-        },
+        ("10", PUT_FIVE, 0, five),
+        ("0000003", PUT_FIVE, 0, five),
+        ("2", PUT_FIVE, 3, b""),
         // Rest is tested before the limit.
-        Row::of(&["raw", "image", "0"], &rest),
-        Row {
-            code: 3,
-            ..Row::of(&["raw", "image", "0"], &rest_later)
-        },
+        ("0", &[0xB8, 0, 0, 0], 0, b""),
+        ("0", &[0x30, 0x60, 0, 5, 0xB8, 0, 0, 0], 3, b""),
         // 65,536 bytes of zeros: the core stops in cycle 16,384.
-        Row {
-            code: 2,
-            ..Row::of(&["raw", "image", "1000000"], b"")
-        },
-        Row {
-            code: 2,
-            ..Row::of(&["raw", "image", "16385"], &full)
-        },
-        Row {
-            code: 3,
-            ..Row::of(&["raw", "image", "16384"], b"")
-        },
+        ("1000000", b"", 2, b""),
+        ("16385", &full, 2, b""),
+        ("16384", b"", 3, b""),
     ];
-    for row in &rows {
-        check(&rt, rt.alloc(), row)?;
+    for (cycles, image, code, printed) in rows {
+        check(
+            &rt,
+            rt.alloc(),
+            &Row {
+                code,
+                printed,
+                ..Row::of(&["raw", "image", cycles], image)
+            },
+        )?;
     }
     Ok(())
 }
