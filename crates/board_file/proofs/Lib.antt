@@ -1,0 +1,9 @@
+pub mod Lookups
+pub mod Somes
+pub mod Sums
+pub mod Values
+pub mod WholeRows
+pub mod WholeBoard
+pub mod Ascending
+pub mod Least
+pub mod Paths

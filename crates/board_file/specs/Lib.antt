@@ -1,0 +1,9 @@
+pub mod Board
+pub mod Bus
+pub mod Claims
+pub mod Faults
+pub mod Keys
+pub mod Read
+pub mod Rows
+pub mod Rules
+pub mod Tree
