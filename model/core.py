@@ -1,8 +1,9 @@
 """A MicroBlaze core, plain and slow, from UG984: what the proved program is compared with.
 
 It knows nothing of the program. Each word is looked up in the whole table of rows; each effect is written as the guide
-writes it. A board is that of `mbsim raw`: one core, put port 0 to the output through a link of 16 items, 65,536 bytes.
+writes it. What a core stands in (its links, breaks and bus) is an object like `board.Ports`.
 """
+import functools
 
 WORD = 0xFFFF_FFFF
 IE, C, BIP, FSL, DZO, EE, EIP = 2, 4, 8, 0x10, 0x40, 0x100, 0x200
@@ -64,6 +65,7 @@ def rows():
 ROWS = rows()
 
 
+@functools.lru_cache(maxsize=None)
 def decode(word):
     """The name and the form of the one row that the word is of, if any."""
     found = [(name, form) for name, form, bits in ROWS if word & MASKS[form] == bits]
@@ -76,26 +78,151 @@ def signed(word, bits=32):
     return word - (1 << bits) if word >> (bits - 1) else word
 
 
-class Raised(Exception):
-    """A fault: the value of ESR, EAR and EDR where they are set, and what a core that doesn't raise it does."""
-
-    def __init__(self, esr, ear=None, edr=None):
-        super().__init__()
-        self.esr, self.ear, self.edr = esr, ear, edr
+NOT_IN_A_SLOT = {"imm", "mbar", "rtsd", "rtid", "rtbd", "rted"}
+ENDS = 0xB8000000  # bri 0
+VECTOR = {"interrupt": 0x10, "break": 0x18, "nonmaskable": 0x18}
 
 
-class Waits(Exception):
-    pass
+def is_branch(name):
+    return name[0] == "b" and not name.startswith("bs")
+
+
+def is_link(name):
+    return name in ("get", "put", "getd", "putd")
+
+
+def link_flags(word, name):
+    """n 16, c 8, t 4, a 2, e 1."""
+    if name in ("get", "put"):
+        return word >> 10 & (31 if name == "get" else 30)
+    return word >> 5 & (31 if name == "getd" else 30)
 
 
 class Core:
-    def __init__(self, image):
-        self.memory = bytearray(image) + bytearray(65_536 - len(image))
+    def __init__(self, memory, entry=0, order="big", network=False):
+        self.memory, self.order, self.network = memory, order, network
         self.r = [0] * 32
-        self.pc = self.msr = self.ear = self.esr = self.btr = self.edr = 0
-        self.prefix = self.slot = None
-        self.atomic = self.asleep = self.stopped = False
-        self.link, self.left = [], []
+        self.pc = entry
+        self.msr = self.ear = self.esr = self.btr = self.edr = 0
+        self.prefix = self.slot = self.stopped = None
+        self.atomic = self.asleep = False
+        self.told = []  # what the act in hand enters in the journal
+
+    # one chance to act
+
+    def tick(self, ports):
+        """Does the one act that is due. Answers whether there was one, and what it, or a wait, enters in the journal."""
+        self.told = []
+        return self.act(ports), self.told
+
+    def act(self, ports):
+        if self.stopped:
+            return False
+        take = self.take_due(ports)
+        if take:
+            self.enter(take)
+            ports.took(take)
+            return True
+        if self.asleep:
+            return False
+        word = self.word_here()
+        if word is None:
+            self.fault(3, f"ibus {self.pc:08X}")
+            return True
+        if self.has_ended(word, ports):
+            return False
+        name, form = decode(word)
+        if name is None or self.network and is_link(name) and link_flags(word, name) & 16:
+            self.fault(2, f"illegal {word:08X}")
+        elif self.slot is not None and (is_branch(name) or name in NOT_IN_A_SLOT):
+            self.stop(f"slot {word:08X}")
+        elif self.wait(word, name, ports):
+            self.told.append("wait " + self.wait(word, name, ports))
+            return False
+        else:
+            self.execute(word, name, form, ports)
+        return True
+
+    def execute(self, word, name, form, ports):
+        rd, ra, rb, low = word >> 21 & 31, word >> 16 & 31, word >> 11 & 31, word & 0xFFFF
+        a, d = self.r[ra], self.r[rd]
+        if form in IMMEDIATE:
+            b = (self.prefix << 16) + low if self.prefix is not None else signed(low, 16) & WORD
+        elif form == "S":
+            b = low & 31
+        else:
+            b = self.r[rb]
+        self.effect(name, word, rd, a, b, d, low, ports)
+
+    def word_here(self):
+        if self.pc % 4 or self.pc >= len(self.memory):
+            return None
+        return int.from_bytes(self.memory[self.pc:self.pc + 4], self.order)
+
+    # breaks, interrupts and rest
+
+    def may_take(self):
+        if self.prefix is not None or self.slot is not None or self.atomic:
+            return False
+        word = self.word_here()
+        name = word is not None and decode(word)[0]
+        return self.asleep or not (name and is_link(name) and link_flags(word, name) & 2)
+
+    def take_due(self, ports):
+        if not self.may_take():
+            return None
+        free = not self.msr & (BIP | EIP)
+        if "nonmaskable" in ports.pending:
+            return "nonmaskable"
+        if "break" in ports.pending and free:
+            return "break"
+        return "interrupt" if ports.line and self.msr & IE and free else None
+
+    def enter(self, take):
+        if take == "interrupt":
+            self.r[14] = self.pc
+            self.put_flag(IE, False)
+        else:
+            self.r[16] = self.pc
+            self.put_flag(BIP, True)
+        self.pc, self.asleep = VECTOR[take], False
+        self.told.append("took " + take)
+
+    def is_closed(self, ports):
+        """Whether no take can come."""
+        held = self.msr & (BIP | EIP)
+        return ("nonmaskable" not in ports.hopes
+                and ("break" not in ports.hopes or bool(held))
+                and ("interrupt" not in ports.hopes or bool(held) or not self.msr & IE))
+
+    def has_ended(self, word, ports):
+        return word == ENDS and self.prefix is None and self.slot is None and self.is_closed(ports)
+
+    def wait(self, word, name, ports):
+        """`get P` or `put P` of a blocking link access whose port isn't ready."""
+        if not is_link(name) or link_flags(word, name) & 16:
+            return None
+        port = self.port(word, name)
+        ready = ports.first(port) is not None if name.startswith("get") else ports.room(port)
+        return None if ready else f"{name[:3]} {port}"
+
+    def idle(self, ports):
+        """Why no act is due and none can come by a take: the report's word for it, or None."""
+        if self.stopped:
+            return "stopped " + self.stopped
+        held = self.is_closed(ports) or not self.may_take()
+        if self.asleep:
+            return "asleep" if held else None
+        word = self.word_here()
+        if word is None:
+            return None
+        if self.has_ended(word, ports):
+            return "ended"
+        name, _ = decode(word)
+        if name is None or self.network and is_link(name) and link_flags(word, name) & 16:
+            return None
+        wait = self.wait(word, name, ports)
+        return "waits " + wait if wait and held else None
 
     # what surrounds an instruction
 
@@ -114,89 +241,38 @@ class Core:
     def put_flag(self, bit, on):
         self.msr = self.msr | bit if on else self.msr & ~bit
 
-    def raise_fault(self, fault):
+    def raise_fault(self, esr, ear=None, edr=None):
         in_slot = self.slot is not None
-        self.esr = fault.esr + (0x1000 if in_slot else 0)
-        if fault.ear is not None:
-            self.ear = fault.ear
-        if fault.edr is not None:
-            self.edr = fault.edr
+        self.esr = esr + (0x1000 if in_slot else 0)
+        if ear is not None:
+            self.ear = ear
+        if edr is not None:
+            self.edr = edr
         if in_slot:
             self.btr = self.slot
         else:
             self.r[17] = (self.pc + 4) & WORD
         self.msr = (self.msr | EIP) & ~EE
         self.pc, self.prefix, self.slot, self.atomic = 0x20, None, None, False
+        self.told.append(f"raised {self.esr:08X}")
 
-    def fault(self, esr, **more):
+    def stop(self, cause):
+        self.stopped = cause
+        self.told.append("stopped " + cause)
+
+    def fault(self, esr, cause, ear=None):
         """Raises a fault that stops the core where exceptions are off."""
-        if not self.exceptions_on():
-            self.stopped = True
-            return
-        self.raise_fault(Raised(esr, **more))
-
-    def rests(self):
-        """Whether the core can't act any more: `ended`, `waits` or `stopped`."""
-        if self.stopped:
-            return "stopped"
-        if self.asleep:
-            return "ended"
-        if self.pc % 4 or self.pc + 4 > len(self.memory):
-            return None
-        word = int.from_bytes(self.memory[self.pc:self.pc + 4], "big")
-        if word == 0xB8000000 and self.prefix is None and self.slot is None:
-            return "ended"
-        name, _ = decode(word)
-        if name in ("get", "getd") and not self.flags(word, name) & 16:
-            return "waits"
-        if name in ("put", "putd") and not self.flags(word, name) & 16 and not self.has_room(self.port(word, name)):
-            return "waits"
-        return None
-
-    # links
-
-    @staticmethod
-    def flags(word, name):
-        """n 16, c 8, t 4, a 2, e 1."""
-        if name == "get":
-            return word >> 10 & 31
-        if name == "put":
-            return word >> 10 & 30
-        return word >> 5 & (31 if name == "getd" else 30)
+        if self.exceptions_on():
+            self.raise_fault(esr, ear)
+        else:
+            self.stop(cause)
 
     def port(self, word, name):
         return self.r[word >> 11 & 31] & 15 if name.endswith("d") else word & 15
 
-    def has_room(self, port):
-        return port == 0 and len(self.link) < 16
+    # the effects
 
-    # one chance to act
-
-    def tick(self):
-        if self.rests():
-            return
-        if self.pc % 4 or self.pc + 4 > len(self.memory):
-            self.fault(3)
-            return
-        word = int.from_bytes(self.memory[self.pc:self.pc + 4], "big")
-        name, form = decode(word)
-        if name is None:
-            self.fault(2)
-            return
-        if self.slot is not None and (name[0] == "b" and not name.startswith("bs") or name in ("imm", "mbar", "rtsd", "rtid", "rtbd", "rted")):
-            self.stopped = True
-            return
-        rd, ra, rb, low = word >> 21 & 31, word >> 16 & 31, word >> 11 & 31, word & 0xFFFF
-        a, d = self.r[ra], self.r[rd]
-        if form in IMMEDIATE:
-            b = (self.prefix << 16) + low if self.prefix is not None else signed(low, 16) & WORD
-        elif form == "S":
-            b = low & 31
-        else:
-            b = self.r[rb]
-        self.effect(name, word, rd, a, b, d, low)
-
-    def effect(self, name, word, rd, a, b, d, low):
+    def effect(self, name, word, rd, a, b, d, low, ports):
         here = self.pc
         base = name[:-1] if name.endswith("i") and name not in ("muli",) else name
         if name.startswith(("add", "rsub")):
@@ -254,6 +330,8 @@ class Core:
         elif name == "mbar":
             self.advance()
             self.asleep = rd in (8, 16, 24)
+            if self.asleep:
+                self.told.append("slept")
         elif name.startswith("rt"):
             self.branch((a + b) & WORD, True)
             if name == "rtid":
@@ -282,9 +360,9 @@ class Core:
             else:
                 self.advance()
         elif name[0] in "ls":
-            self.access(name.removesuffix("i"), rd, (a + b) & WORD, d)
+            self.access(name.removesuffix("i"), rd, (a + b) & WORD, d, ports)
         else:
-            self.use_link(name, word, rd, a)
+            self.use_link(name, word, rd, a, ports)
 
     def result(self, rd, value):
         self.advance()
@@ -309,54 +387,76 @@ class Core:
             self.result(rd, value)
         elif self.exceptions_on():
             self.put_flag(DZO, True)
-            self.raise_fault(Raised(esr))
+            self.raise_fault(esr)
         else:
             self.result(rd, value)
             self.put_flag(DZO, True)
 
-    def access(self, name, rd, addr, value):
+    def access(self, name, rd, addr, value, ports):
         store = name[0] == "s"
         size = {"b": 1, "h": 2, "w": 4}[name[1]]
         if addr % size:
             if self.exceptions_on():
-                self.raise_fault(Raised(1 + (0x800 if size == 4 else 0) + (0x400 if store else 0) + (rd << 5), ear=addr))
+                self.raise_fault(1 + (0x800 if size == 4 else 0) + (0x400 if store else 0) + (rd << 5), addr)
                 return
             addr -= addr % size
         if addr >= len(self.memory):
-            # no device answers, and smaller accesses don't go to the bus
-            self.fault(4, ear=addr)
+            self.reach_bus(store, size, rd, addr, value, ports)
         elif store:
-            self.memory[addr:addr + size] = (value & (1 << 8 * size) - 1).to_bytes(size, "big")
+            self.memory[addr:addr + size] = (value & (1 << 8 * size) - 1).to_bytes(size, self.order)
             self.advance()
         else:
-            self.result(rd, int.from_bytes(self.memory[addr:addr + size], "big"))
+            self.result(rd, int.from_bytes(self.memory[addr:addr + size], self.order))
 
-    def use_link(self, name, word, rd, a):
-        flags, port = self.flags(word, name), self.port(word, name)
-        ready = name.startswith("put") and self.has_room(port)
-        self.advance()
-        self.atomic = bool(flags & 2)
+    def reach_bus(self, store, size, rd, addr, value, ports):
+        """A word above the memory is the bus's; smaller accesses don't get there."""
+        answer = None
+        if size == 4:
+            answer = ports.write(addr, value) if store else ports.read(addr)
+            refused = "" if answer is not None else "refused"
+            word = value if store else answer
+            self.told.append(f"{'wrote' if store and not refused else 'write' if store else 'read'}{refused} {addr:08X}"
+                             + ("" if word is None else f" {word:08X}"))
+        if answer is None:
+            self.fault(4, f"dbus {addr:08X}", addr)
+        elif store:
+            self.advance()
+        else:
+            self.result(rd, answer)
+
+    def use_link(self, name, word, rd, a, ports):
+        flags, port = link_flags(word, name), self.port(word, name)
+        item = ports.first(port) if name.startswith("get") else None
+        ready = item is not None if name.startswith("get") else ports.room(port)
         if flags & 16:
             self.put_flag(C, not ready)
-        # a get never finds an item here
-        if ready and not flags & 4:
-            self.link.append((flags >> 3 & 1, a))
+        if not ready:
+            self.told.append(f"missed {name[:3]} {port}")
+        elif name.startswith("put"):
+            self.send(flags, port, a, ports)
+        elif self.receive(flags, port, item, rd, ports):
+            return
+        self.advance()
+        self.atomic = bool(flags & 2)
 
+    def send(self, flags, port, a, ports):
+        control = flags >> 3 & 1
+        if flags & 4:
+            self.told.append(f"room {port}")
+        else:
+            ports.put(port, (control, a))
+            self.told.append(f"sent {port} {control} {a:08X}")
 
-def run(image, limit):
-    """The status of `raw` and the lines that it prints."""
-    core = Core(image)
-    cycle = 0
-    while True:
-        rest = None if core.link else core.rests()
-        if rest:
-            status = {"stopped": 2, "waits": 1, "ended": 0}[rest]
-            break
-        if cycle == limit:
-            status = 3
-            break
-        if core.link:
-            core.left.append(core.link.pop(0))
-        core.tick()
-        cycle += 1
-    return status, "".join(f"{control} {word:08X}\n" for control, word in core.left)
+    def receive(self, flags, port, item, rd, ports):
+        """Whether the get raised."""
+        control, value = item
+        if not flags & 4:
+            ports.take(port)
+        self.told.append(f"{'seen' if flags & 4 else 'got'} {port} {control} {value:08X}")
+        if control != flags >> 3 & 1:
+            self.put_flag(FSL, True)
+            if flags & 1 and self.exceptions_on():
+                self.raise_fault(port << 5, edr=value)
+                return True
+        self.put_register(rd, value)
+        return False

@@ -1,4 +1,6 @@
-mod NeverWait
+pub mod NeverWait
 mod Fitting
-mod Telling
+pub mod Telling
 mod Placing
+pub mod RestLaws
+mod Taking

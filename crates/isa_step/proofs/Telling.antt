@@ -1,6 +1,6 @@
 -- Each act that is due is told by its actions.
 use Rattle.std.specs.Prelude.{◌≡◌, ℕ, Bool, true, false, Option, Some, None, option_to_list, if◌then◌else◌}
-use Rattle.std.proofs.Common.{refl, ap, subst, ◌∙◌}
+use Rattle.std.proofs.Common.{refl, ap, sym, subst, ◌∙◌}
 use Rattle.axi_link.specs.declared.item.Item.{Item}
 use Rattle.core_regs.specs.declared.registers.Arch.{Arch}
 use Rattle.core_regs.specs.declared.causes.StopCause.{StopCause}
@@ -10,9 +10,10 @@ use Rattle.isa_step.specs.declared.acts.Action.{Action}
 use Rattle.isa_step.specs.declared.acts.Action.TheVariants.{Got, Sent, Seen, Room, Missed, Read, ReadRefused, Wrote, WriteRefused, Took}
 use Rattle.isa_step.specs.Shown.{Shown}
 use Rattle.isa_step.specs.Deeds.{View, Deed, Due, Does, Waits, Sleeps, Ends, Stops, Want, Goes, Homes, Gets, Puts, Reads, Writes}
-use Rattle.isa_step.specs.Due.{awake, by_item, by_room, due_by, due_with, here_of, is_closed, reply, take_due}
+use Rattle.delay_imm.specs.Slots.{may_take}
+use Rattle.isa_step.specs.Due.{awake, by_item, by_room, due, due_by, due_with, here_of, is_closed, reply, take_by, take_due}
 use Rattle.isa_step.specs.History.{IsTold, answered, deed_by, deed_told, took}
-use Rattle.isa_step.specs.Wants.{operands_of, wants}
+use Rattle.isa_step.specs.Wants.{is_atomic_here, operands_of, wants}
 use Rattle.isa_step.proofs.Fitting.{IsFit, HasItem, HasRoom, MissedBy, wants_fit}
 
 -- what an outcome says of the actions of its act, where it is one
@@ -135,3 +136,40 @@ unfolding due_with
 is_told = record {
   told = λ v s deed e. subst (DeedTold v) e (due_told v s (take_due (here_of v) (bare v.arch) s) v.arch.stopped);
 }
+
+-- no instruction takes an interrupt or a break
+abbrev NoTake : Due → Type 0
+NoTake (Does d) = took (option_to_list d.action) ≡ None
+NoTake _ = Unit {0}
+
+want_untaken : (w : Want) (o : Due) → IsToldBy w o → NoTake o
+want_untaken w (Does d) h = h.1
+want_untaken w (Waits port full) h = tt
+want_untaken w Sleeps h = tt
+want_untaken w Ends h = tt
+want_untaken w (Stops cause) h = tt
+
+awake_untaken : (v : View) (s : Shown) (b : Bool) → NoTake (awake (here_of v) (operands_of (here_of v) v.arch.regs) (bare v.arch) v.memory s b)
+awake_untaken v s true = tt
+awake_untaken v s false =
+    let w = wants (here_of v) (operands_of (here_of v) v.arch.regs) (bare v.arch) v.memory in
+    want_untaken w (reply (bare v.arch) w s) (reply_told (bare v.arch) w s (wants_fit (here_of v) (operands_of (here_of v) v.arch.regs) (bare v.arch) v.memory))
+
+untaken : (v : View) (s : Shown) (c : Option StopCause) → NoTake (due_by (here_of v) (operands_of (here_of v) v.arch.regs) (bare v.arch) v.memory s None c)
+untaken v s (Some cause) = tt
+untaken v s None = awake_untaken v s v.arch.asleep
+
+stands_by : (v : View) (s : Shown) (deed : Deed) (t : Take) (b : Bool) → may_take (bare v.arch) (is_atomic_here (here_of v)) ≡ b → due v s ≡ Does deed → deed.action ≡ Some (Took t) → may_take (bare v.arch) (is_atomic_here (here_of v)) ≡ true
+unfolding due_with take_due
+stands_by v s deed t true q e h = q
+stands_by v s deed t false q e h =
+    let o = operands_of (here_of v) v.arch.regs in
+    let n : take_due (here_of v) (bare v.arch) s ≡ None = ap (take_by (bare v.arch) s) q in
+    let d : due v s ≡ due_by (here_of v) o (bare v.arch) v.memory s None v.arch.stopped = ap (λ t. due_by (here_of v) o (bare v.arch) v.memory s t v.arch.stopped) n in
+    let u : took (option_to_list deed.action) ≡ None = subst NoTake (sym d ∙ e) (untaken v s v.arch.stopped) in
+    let z : Some t ≡ None = ap (λ a. took (option_to_list a)) (sym h) ∙ u in
+    cc
+
+-- a take is done only where one may come
+pub takes_stand : (v : View) (s : Shown) (deed : Deed) (t : Take) → due v s ≡ Does deed → deed.action ≡ Some (Took t) → may_take (bare v.arch) (is_atomic_here (here_of v)) ≡ true
+takes_stand v s deed t e h = stands_by v s deed t (may_take (bare v.arch) (is_atomic_here (here_of v))) refl e h

@@ -1,5 +1,5 @@
 -- Why a core does nothing and nothing can come to it, told from its view and what a shared reference shows.
-use Rattle.std.specs.Prelude.{ℕ, ◌||◌, not, Bool, true, false, List, Option, Some, None, if◌then◌else◌}
+use Rattle.std.specs.Prelude.{◌≡◌, ◌⊎◌, ℕ, ◌||◌, not, Bool, true, false, List, Option, Some, None, if◌then◌else◌}
 use Rattle.axi_link.specs.declared.item.Item.{Item}
 use Rattle.core_regs.specs.declared.registers.Arch.{Arch}
 use Rattle.core_regs.specs.declared.causes.StopCause.{StopCause}
@@ -10,8 +10,8 @@ use Rattle.isa_step.specs.declared.acts.Idle.{Idle}
 use Rattle.isa_step.specs.declared.acts.Idle.TheVariants.{Ended, Asleep, Waits, Stopped}
 use Rattle.isa_step.specs.declared.acts.Operands.{Operands}
 use Rattle.isa_step.specs.Shown.{Shown}
-use Rattle.isa_step.specs.Deeds.{View, Deed, Want, Goes, Homes, Gets, Puts, Reads, Writes}
-use Rattle.isa_step.specs.Due.{here_of, is_closed, met}
+use Rattle.isa_step.specs.Deeds.{View, Deed, Due, Does, Sleeps, Ends, Stops, Waits as WaitsFor, Want, Goes, Homes, Gets, Puts, Reads, Writes}
+use Rattle.isa_step.specs.Due.{due, here_of, is_closed, met}
 use Rattle.isa_step.specs.Wants.{is_atomic_here, operands_of, wants}
 
 -- no take can come: none will, or none may
@@ -59,3 +59,30 @@ idle_of a word m s = idle_by (met word) (operands_of (met word) a.regs) (bare a)
 -- the rest of a core, by its view
 abbrev pub idle_view : View → Shown → Option Idle
 idle_view v s = idle_by (here_of v) (operands_of (here_of v) v.arch.regs) (bare v.arch) v.memory s v.arch.stopped
+
+-- what comes was hoped for: the line is high only where there is a controller, and a break is pending only where one is left
+-- or pending
+pub record IsHoped (s : Shown) : Type 0 where
+  pub interrupt : s.line ≡ true → s.hopes.interrupt ≡ true
+  pub maskable : s.breaks.maskable ≡ true → s.hopes.maskable ≡ true
+  pub nonmaskable : s.breaks.nonmaskable ≡ true → s.hopes.nonmaskable ≡ true
+
+-- the same ports, when all that is hoped for has come
+abbrev pub all_come : Shown → Shown
+all_come s = record s {
+  line = s.hopes.interrupt;
+  breaks = record { maskable = s.hopes.maskable; nonmaskable = s.hopes.nonmaskable };
+}
+
+-- why an outcome is no act
+abbrev pub idle_due : Due → Option Idle
+idle_due (Does deed) = None
+idle_due (WaitsFor port full) = Some (Waits (record { port = port; full = full }))
+idle_due Sleeps = Some Asleep
+idle_due Ends = Some Ended
+idle_due (Stops cause) = Some (Stopped cause)
+
+-- a core rests exactly where no act is due now and none will be, whatever comes of what is hoped for
+pub record IsRest : Type 0 where
+  pub lasts : (v : View) (s : Shown) (why : Idle) → IsHoped s → idle_view v s ≡ Some why → idle_due (due v s) ≡ Some why
+  pub whole : (v : View) (s : Shown) → IsHoped s → idle_view v s ≡ None → (idle_due (due v s) ≡ None) ⊎ (idle_due (due v (all_come s)) ≡ None)

@@ -131,6 +131,7 @@ pub enum Second {
 /// What each row does.
 #[rattlefmt::skip]
 #[tactic(auto, unfolding(crate::specs::Kinds::kind_of))]
+#[inline(always)]
 pub fn kind_of(op: Op) -> Kind
     ensures { result ≡ kind_of op }
 {
@@ -282,6 +283,7 @@ pub fn kind_of(op: Op) -> Kind
 /// Where the second operand of each row stands.
 #[rattlefmt::skip]
 #[tactic(auto, unfolding(crate::specs::Kinds::second_of))]
+#[inline(always)]
 pub fn second_of(op: Op) -> Second
     ensures { result ≡ second_of op }
 {

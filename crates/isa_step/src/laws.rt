@@ -5,6 +5,7 @@ ghost use Rattle.op_table.specs.declared.op.Op.{Op};
 ghost use Rattle.op_table.specs.Table.{row_for};
 ghost use Rattle.isa_step.specs.History.{IsTold};
 ghost use Rattle.isa_step.specs.Kinds.{kind_of};
+ghost use Rattle.isa_step.specs.Resting.{IsRest};
 ghost use Rattle.isa_step.specs.Wants.{belongs_into_slot};
 
 /// Each act that is due is told by its actions at the ports: so the view after any number of acts follows from the
@@ -18,4 +19,11 @@ pub fn acts_are_told()
 #[tactic(auto, using(crate::proofs::Placing::slots_agree))]
 pub fn slots_agree()
     ensures { (op : Op) → (row_for op).slot_ok ≡ belongs_into_slot (kind_of op) }
+{}
+
+/// A core rests exactly where no act is due now and none will be: where `idle` names why, no act is due for that very
+/// reason, and where it is silent an act is due, or will be once every interrupt and break that can come has come.
+#[tactic(auto, using(crate::proofs::RestLaws::is_rest))]
+pub fn rest_is_final()
+    ensures { IsRest }
 {}

@@ -26,7 +26,7 @@ pub use acts::{
 pub use bench::BenchPorts;
 pub use idling::{idle, idle_at};
 pub use kinds::{Condition, Kind, Return, Second, Special, TopBit, Width, kind_of, second_of};
-pub use laws::{acts_are_told, slots_agree};
+pub use laws::{acts_are_told, rest_is_final, slots_agree};
 pub use ports::{Ports, Sees};
 pub use stepping::{act, here_at, is_atomic_here, is_closed, met, perform, perform_here, take_due};
 pub use supplying::{Given, latency_of, read_operands, supply};

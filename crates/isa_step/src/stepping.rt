@@ -1,10 +1,10 @@
 //! The one act that is due.
 
-ghost use Rattle.std.specs.Prelude.{◌≡◌, ◌≤◌, ◌+◌, IfSome, List, ℕ, None};
+ghost use Rattle.std.specs.Prelude.{◌≡◌, ◌≤◌, ◌+◌, IfSome, List, ℕ, None, true};
 ghost use Rattle.core_regs.specs.State.{bare};
 ghost use Rattle.mb_decode.specs.Meaning.{NamesRegisters};
 ghost use Rattle.isa_step.specs.Deeds.{Does, Homes, faults};
-ghost use Rattle.isa_step.specs.Due.{due, due_with, here_at, is_closed, is_masked, met, pick, reply, take_due, takes};
+ghost use Rattle.isa_step.specs.Due.{due, due_with, here_at, is_closed, is_masked, met, pick, reply, take_by, take_due, takes};
 ghost use Rattle.isa_step.specs.Kinds.{kind_of};
 ghost use Rattle.isa_step.specs.Performing.{Makes, Names, NamesOf, Performed, Stepped};
 ghost use Rattle.isa_step.specs.Wants.{belongs_into_slot, comes_home, is_atomic_here, is_banned, is_end, is_link, wants, wants_kind};
@@ -183,14 +183,10 @@ fn pick(nonmaskable: bool, maskable: bool, interrupt: bool) -> Option<Take>
     }
 }
 
-/// The interrupt or break that is taken now.
-#[tactic(auto, unfolding(crate::specs::Due::take_due))]
-pub fn take_due<P: Sees>(here: &Option<Here>, a: &Arch, p: &P) -> Option<Take>
-    ensures { result ≡ take_due here.now (bare a.now) (P.shows p.now) }
+/// The interrupt or break that is taken where one may come.
+fn take_offered<P: Sees>(a: &Arch, p: &P) -> Option<Take>
+    ensures { result ≡ take_by (bare a.now) (P.shows p.now) true }
 {
-    if !may_take(a, is_atomic_here(here)) {
-        return None;
-    }
     let breaks = p.breaks();
     let open = !is_masked(a);
     pick(
@@ -198,6 +194,23 @@ pub fn take_due<P: Sees>(here: &Option<Here>, a: &Arch, p: &P) -> Option<Take>
         breaks.maskable && open,
         p.line() && a.has(Msr::IE) && open,
     )
+}
+
+/// The interrupt or break that is taken now.
+#[tactic(auto, unfolding(crate::specs::Due::take_due), using(crate::proofs::Taking::none_by))]
+pub fn take_due<P: Sees>(here: &Option<Here>, a: &Arch, p: &P) -> Option<Take>
+    ensures { result ≡ take_due here.now (bare a.now) (P.shows p.now) }
+{
+    match take_offered(a, p) {
+        Some(take) => {
+            if may_take(a, is_atomic_here(here)) {
+                Some(take)
+            } else {
+                None
+            }
+        }
+        None => None,
+    }
 }
 
 /// Takes an interrupt or a break.

@@ -30,6 +30,7 @@ pub struct Given {
 
 /// How soon the register of an instruction can be used, `None` where it writes none.
 #[tactic(auto, unfolding(crate::specs::Wants::latency_of))]
+#[inline(always)]
 pub fn latency_of(kind: Kind) -> Option<Latency>
     ensures { result ≡ latency_of kind }
 {
@@ -71,6 +72,7 @@ fn second_value(second: Second, a: &Arch, i: &Instr, o: &Operands) -> u32
 
 /// An instruction with the values of its operands.
 #[tactic(auto, unfolding(crate::specs::Wants::given))]
+#[inline(always)]
 pub fn supply(i: &Instr, kind: Kind, o: &Operands, a: &Arch) -> Given
     requires registers { NamesRegisters i.now }
     requires kind { kind ≡ kind_of i.now.op }

@@ -1,8 +1,6 @@
-pub mod CycleStart
-pub mod Digits
-pub mod Images
-pub mod Moves
-pub mod Printed
-pub mod Raws
-pub mod OneEnd
-pub mod Exact
+mod Images
+mod Printed
+mod Limits
+mod Boards
+mod Exact
+mod FairRuns

@@ -1,61 +1,44 @@
--- Lines that were written one after another.
-use Rattle.std.proofs.Common.{◌≡◌, ℕ, suc, ◌+◌, ◌<◌, List, [], ◌∷◌, ◌++◌, length, take, drop, get_or, Option, Some, None, Ok, Err, refl, sym, ap, subst, ◌∙◌, arith, append_assoc, append-nil, drop-cons, length-append}
-use Rattle.std.proofs.lemmas.List.{take-append-le, take-append-drop}
-use Rattle.std.proofs.lemmas.List.Concat.{flat_map-append}
-use Rattle.std.proofs.Math.Seq.{take-append-add}
-use Rattle.std.specs.Prelude.{◌==◌, true}
+-- Lines that are written one after another.
 use Rattle.std.specs.Io.KnownBytes.{append_known}
+use Rattle.std.proofs.Common.{◌≡◌, ℕ, ◌+◌, ◌<◌, ◌≤◌, List, [], ◌∷◌, ◌++◌, length, take, drop, slice_get, flat_map, Option, Some, None, Ok, Err, refl, sym, ap, subst, ◌∙◌, arith, append-nil}
+use Rattle.std.specs.Prelude.{◌==◌, true}
+use Rattle.std.proofs.lemmas.List.{take_all}
 use Rattle.host_io.specs.declared.faults.StoreFault.{StoreFault}
-use Rattle.host_io.specs.declared.faults.StoreFault.TheVariants.{Failed, NoMemory}
-use Rattle.host_io.specs.Outside.{SinkState, Adds, AddsPrefix, Counted}
-use Rattle.axi_link.specs.declared.item.Item.{Item}
-use Rattle.mb_sim.specs.Lines.{line_of, lines_of}
+use Rattle.host_io.specs.Outside.{SinkState, Adds}
+use Rattle.run_journal.specs.declared.entry.Entry.{Entry}
+use Rattle.board_machine.proofs.Lists.{slice_get_in}
+use Rattle.run_output.proofs.Joined.{pieces_all, pieces_next}
+use Rattle.run_output.proofs.Printing.{adds_cut, adds_then}
+use Rattle.mb_sim.specs.Raw.{printed, printed_at, printed_of}
 
-pub append_known_twice : (known : Option (List ℕ)) (xs ys : List ℕ) → append_known (append_known known xs) ys ≡ append_known known (xs ++ ys)
-append_known_twice None xs ys = refl
-append_known_twice (Some bytes) xs ys = ap Some (append_assoc bytes xs ys)
-
-append_known_nothing : (known : Option (List ℕ)) → known ≡ append_known known []
-append_known_nothing None = refl
-append_known_nothing (Some bytes) = ap Some (sym (append-nil bytes))
-
--- the lines before an item, its own, and those behind it
-split : (items : List Item) (i : ℕ) (d : Item) → i < length items
-    → lines_of items ≡ lines_of (take i items) ++ (line_of (get_or items i d) ++ lines_of (drop (suc i) items))
-split items i d h =
-    ap lines_of (sym (take-append-drop i items))
-    ∙ flat_map-append line_of (take i items) (drop i items)
-    ∙ ap (λ rest. lines_of (take i items) ++ lines_of rest) (drop-cons items i d h)
-
-prefix_after : (old mid new : Option (List ℕ)) (items : List Item) (i : ℕ) (d : Item) → i < length items
-    → mid ≡ append_known old (lines_of (take i items)) → AddsPrefix mid new (line_of (get_or items i d))
-    → AddsPrefix old new (lines_of items)
-prefix_after old mid new items i d h before (k, within, added) =
-    let front : List ℕ = lines_of (take i items) in
-    let line : List ℕ = line_of (get_or items i d) in
-    let behind : List ℕ = lines_of (drop (suc i) items) in
-    let whole : lines_of items ≡ front ++ (line ++ behind) = split items i d h in
-    let cut : take (length front + k) (lines_of items) ≡ front ++ take k line =
-    ap (take (length front + k)) whole ∙ take-append-add front (line ++ behind) k ∙ ap (λ xs. front ++ xs) (take-append-le k line behind within)
-    in (
-      length front + k,
-      (let total : length (lines_of items) ≡ length front + (length line + length behind) =
-          ap length whole ∙ length-append front (line ++ behind) ∙ ap (λ n. length front + n) (length-append line behind)
-          in omega arith),
-      added ∙ ap (λ known. append_known known (take k line)) before ∙ append_known_twice old front (take k line) ∙ ap (append_known old) (sym cut),
-    )
-
--- a write that failed after some whole lines
-pub adds_after : (old mid new : SinkState) (items : List Item) (i : ℕ) (d : Item) → i < length items
-    → mid.written ≡ append_known old.written (lines_of (take i items)) → mid.faults ≡ old.faults
-    → (fault : StoreFault) → Adds mid new (line_of (get_or items i d)) (Err fault) → Adds old new (lines_of items) (Err fault)
-adds_after old mid new items i d h written faults Failed (prefix, counted) =
-    let P : ℕ → Type 0 = λ n. Counted n new.faults in
-    (prefix_after old.written mid.written new.written items i d h written prefix, subst P faults counted)
-adds_after old mid new items i d h written faults NoMemory (prefix, quiet) =
-    (prefix_after old.written mid.written new.written items i d h written prefix, quiet ∙ faults)
+nothing_known : (known : Option (List ℕ)) → known ≡ append_known known []
+nothing_known None = refl
+nothing_known (Some bytes) = ap Some (sym (append-nil bytes))
 
 -- no line leaves a stream as it is
-pub adds_nothing : (old : SinkState) (line : List ℕ) → (length line == 0) ≡ true → Adds old old line (Ok tt)
-adds_nothing old [] empty = (append_known_nothing old.written, refl)
-adds_nothing old (byte ∷ bytes) empty = absurd (grind (arith, empty))
+pub no_line : (old : SinkState) (line : List ℕ) → (length line == 0) ≡ true → Adds old old line (Ok tt)
+no_line old [] empty = (nothing_known old.written, refl)
+no_line old (byte ∷ bytes) empty = absurd (grind (arith, empty))
+
+-- the line of one more entry
+pub entry_added : (old mid new : SinkState) (entries : List Entry) (k : ℕ) → k < length entries → Adds old mid (printed (take k entries)) (Ok tt)
+    → Adds mid new (printed_at (slice_get entries k)) (Ok tt) → Adds old new (printed (take (k + 1) entries)) (Ok tt)
+entry_added old mid new entries k l before h =
+    let P : List ℕ → Type 0 = λ text. Adds old new text (Ok tt) in
+    let Q : Option Entry → Type 0 = λ o. Adds mid new (printed_at o) (Ok tt) in
+    let x = slice_get_in entries k l in
+    subst P (sym (pieces_next printed_of entries k x.0 x.1)) (adds_then old mid new (printed (take k entries)) (printed_of x.0) (Ok tt) before (subst Q x.1 h))
+
+-- the line of an entry was refused
+pub entry_refused : (old mid new : SinkState) (entries : List Entry) (k : ℕ) (fault : StoreFault) → k < length entries → Adds old mid (printed (take k entries)) (Ok tt)
+    → Adds mid new (printed_at (slice_get entries k)) (Err fault) → Adds old new (printed entries) (Err fault)
+entry_refused old mid new entries k fault l before h =
+    let P : List ℕ → Type 0 = λ text. Adds old new text (Err fault) in
+    let Q : Option Entry → Type 0 = λ o. Adds mid new (printed_at o) (Err fault) in
+    let x = slice_get_in entries k l in
+    subst P (sym (pieces_all printed_of entries k x.0 x.1))
+    (adds_cut old new (printed (take k entries) ++ printed_of x.0) (printed (drop (k + 1) entries)) fault
+    (adds_then old mid new (printed (take k entries)) (printed_of x.0) (Err fault) before (subst Q x.1 h)))
+
+pub all_printed : (old new : SinkState) (entries : List Entry) (k : ℕ) → length entries ≤ k → Adds old new (printed (take k entries)) (Ok tt) → Adds old new (printed entries) (Ok tt)
+all_printed old new entries k l h = let P : List ℕ → Type 0 = λ text. Adds old new text (Ok tt) in subst P (ap printed (take_all k entries l)) h

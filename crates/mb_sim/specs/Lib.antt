@@ -1,4 +1,5 @@
-pub mod Words
 pub mod Lines
-pub mod Run
+pub mod Runs
+pub mod Raw
+pub mod Board
 pub mod Top

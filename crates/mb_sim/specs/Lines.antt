@@ -1,23 +1,9 @@
 -- What is printed.
-use Rattle.std.specs.Prelude.{ℕ, ◌+◌, ◌/◌, ◌%◌, ◌^◌, nat_lt, if◌then◌else◌, List, [], ◌∷◌, ◌++◌, codes}
-use Rattle.std.specs.List.{flat_map}
+use Rattle.std.specs.Prelude.{ℕ, if◌then◌else◌, List, [], ◌++◌, codes, decimal}
 use Rattle.axi_link.specs.declared.item.Item.{Item}
+use Rattle.run_journal.specs.Digits.{hex_of}
 use Rattle.mb_sim.specs.declared.status.Status.{Status}
-use Rattle.mb_sim.specs.declared.status.Status.TheVariants.{Ended, Waiting, Stopped, CyclesSpent, Usage, ReadFault, WriteFault, NoMemory, TooLong}
-
--- 0 to 9, then A to F
-abbrev pub hex_digit : ℕ → ℕ
-hex_digit d = if nat_lt d 10 then 48 + d else 55 + d
-
--- the hexadecimal digit that stands for the four bits of a word from that place on
-abbrev pub digit_at : ℕ → ℕ → ℕ
-digit_at word place = hex_digit (word / 2 ^ place % 16)
-
--- a word as eight digits, the most significant first
-unfoldable pub hex_of : ℕ → List ℕ
-hex_of word =
-    digit_at word 28 ∷ digit_at word 24 ∷ digit_at word 20 ∷ digit_at word 16
-    ∷ digit_at word 12 ∷ digit_at word 8 ∷ digit_at word 4 ∷ digit_at word 0 ∷ []
+use Rattle.mb_sim.specs.declared.status.Status.TheVariants.{Ended, Waiting, Stopped, CyclesSpent, JournalFull, Usage, ReadFault, WriteFault, NoMemory, TooLong, BadBoard, BadImage, BadInput, NotYet}
 
 -- the control bit as a digit
 abbrev pub control_of : Item → List ℕ
@@ -26,9 +12,6 @@ control_of item = if item.control then codes "1" else codes "0"
 -- the line of an item: its control bit, a space, its word
 abbrev pub line_of : Item → List ℕ
 line_of item = control_of item ++ codes " " ++ hex_of item.word ++ codes "\n"
-
-abbrev pub lines_of : List Item → List ℕ
-lines_of = flat_map line_of
 
 -- a line of the program that says this
 abbrev pub line_with : List ℕ → List ℕ → List ℕ → List ℕ
@@ -40,8 +23,13 @@ told Ended = []
 told Waiting = []
 told Stopped = []
 told CyclesSpent = []
+told JournalFull = []
 told Usage = line_with (codes "usage") [] []
 told (ReadFault file) = line_with (codes "cannot read ") file []
 told (WriteFault file) = line_with (codes "cannot write ") file []
+told (BadBoard code place) = codes "mbsim: board " ++ decimal code ++ codes " at " ++ place ++ codes "\n"
+told (BadImage core code at) = codes "mbsim: image of " ++ core ++ codes " " ++ decimal code ++ codes " at " ++ decimal at ++ codes "\n"
 told NoMemory = line_with (codes "no memory") [] []
+told (BadInput file offset) = codes "mbsim: input " ++ file ++ codes " at " ++ decimal offset ++ codes "\n"
 told (TooLong file) = line_with [] file (codes " is too long")
+told (NotYet place) = line_with (codes "not built at ") place []

@@ -1,100 +1,88 @@
 -- What a status says of the call that answered it.
-use Rattle.std.specs.Prelude.{◌≡◌, ◌⊎◌, ⊤, codes, IfSome, ℕ, ◌-◌, ◌≤◌, List, [], ◌++◌, length, replicate, Option, Some, None, Result}
+use Rattle.std.specs.Prelude.{◌≡◌, ◌⊎◌, ⊤, codes, IfSome, ℕ, ◌≤◌, List, [], ◌∷◌, ◌++◌, length, Option, Some, None, Result}
 use Rattle.std.specs.Io.KnownBytes.{append_known}
 use Rattle.host_io.specs.declared.faults.StoreFault.{StoreFault}
 use Rattle.host_io.specs.Outside.{Adds, AddsPrefix, Files, IsLonger, Rose, ShelfState, SinkState}
-use Rattle.mb_sim.specs.declared.ends.RunEnd.{RunEnd}
-use Rattle.mb_sim.specs.declared.ends.RunEnd.TheVariants as end
+use Rattle.isa_step.specs.Deeds.{View}
+use Rattle.board_file.specs.declared.board.BoardFile.{BoardFile}
+use Rattle.board_load.specs.Jobs.{IsJobOf}
+use Rattle.board_machine.specs.declared.events.Rest.TheVariants as rest
+use Rattle.board_machine.specs.declared.events.RunEnd.{RunEnd}
+use Rattle.board_machine.specs.declared.events.RunEnd.TheVariants as end
+use Rattle.board_machine.specs.World.{World}
+use Rattle.command_words.specs.declared.command.Command.{Command}
+use Rattle.command_words.specs.declared.command.Command.TheVariants.{Raw, Run}
 use Rattle.mb_sim.specs.declared.status.Status.{Status}
-use Rattle.mb_sim.specs.declared.status.Status.TheVariants.{Ended, Waiting, Stopped, CyclesSpent, Usage, ReadFault, WriteFault, NoMemory, TooLong}
-use Rattle.mb_sim.specs.declared.words.RawCommand.{RawCommand}
-use Rattle.mb_sim.specs.Run.{EndsAt, State, board_after}
-use Rattle.mb_sim.specs.Lines.{lines_of}
+use Rattle.mb_sim.specs.declared.status.Status.TheVariants.{Ended, Waiting, Stopped, CyclesSpent, JournalFull, Usage, ReadFault, WriteFault, NoMemory, TooLong}
+use Rattle.mb_sim.specs.Board.{Says as SaysRun}
+use Rattle.mb_sim.specs.Raw.{printed, raw_board, raw_view}
+use Rattle.mb_sim.specs.Runs.{IsRunOf}
 
--- the number with which the process ends
-abbrev pub code_of : Status → ℕ
-code_of Ended = 0
-code_of Waiting = 1
-code_of Stopped = 2
-code_of CyclesSpent = 3
-code_of Usage = 4
-code_of (ReadFault file) = 5
-code_of (WriteFault file) = 8
-code_of NoMemory = 9
-code_of (TooLong file) = 15
+-- `raw`: a file, and a limit of cycles
+pub record RawJob : Type 0 where
+  pub file : List ℕ
+  pub cycles : ℕ
 
--- the status of a run that ended so
-abbrev pub status_of : RunEnd → Status
-status_of end.Ended = Ended
-status_of end.Waiting = Waiting
-status_of end.Stopped = Stopped
-status_of end.CyclesSpent = CyclesSpent
+-- the room for entries of a run that names none
+abbrev pub default_entries : ℕ
+default_entries = 1_048_576
 
--- the bytes of an image at 0, and zeros behind them
-abbrev pub memory_of : List ℕ → List ℕ
-memory_of image = image ++ replicate (65_536 - length image) 0
-
--- what a run prints: the items that left
-abbrev pub printed_of : State → List ℕ
-printed_of board = lines_of board.left
-
--- the command's run ended so
-pub record RanTo (command : RawCommand) (shelf : ShelfState) (how : RunEnd) : Type 0 where
+-- the command's run ended so, and this is the board then
+pub record HasRunTo (job : RawJob) (shelf : ShelfState) (how : RunEnd) (last : World) : Type 0 where
   pub image : List ℕ
   -- the image is the content of the file, where the shelf tells
-  pub told : IfSome shelf.files (λ files. files command.file ≡ Some image)
+  pub told : IfSome shelf.files (λ files. files job.file ≡ Some image)
   pub within : length image ≤ 65_536
-  pub cycles : ℕ
-  pub ends : EndsAt (memory_of image) command.cycles cycles how
-
--- the board at that end
-abbrev pub last : (command : RawCommand) (shelf : ShelfState) (how : RunEnd) → RanTo command shelf how → State
-last command shelf how ran = board_after (memory_of ran.image) ran.cycles
-
--- the command's run ended so, with that board
-abbrev pub HasRunTo : RawCommand → ShelfState → RunEnd → State → Type 0
-HasRunTo command shelf how board = (ran : RanTo command shelf how) × (board ≡ last command shelf how ran)
+  pub ran : IsRunOf (raw_board job.file) (raw_view image ∷ []) [] default_entries job.cycles last how
 
 -- the command's run ended so, and the sink gained what it prints
-abbrev pub Prints : RawCommand → ShelfState → SinkState → SinkState → RunEnd → Type 0
-Prints command shelf out out' how =
-    (board : State) × HasRunTo command shelf how board × (out'.written ≡ append_known out.written (printed_of board))
+abbrev pub Prints : RawJob → ShelfState → SinkState → SinkState → RunEnd → Type 0
+Prints job shelf out out' how =
+    (last : World) × HasRunTo job shelf how last × (out'.written ≡ append_known out.written (printed last.fabric.journal))
 
 -- the command's run ended, and the sink gained a prefix of what it prints
-abbrev pub PrintsPrefix : RawCommand → ShelfState → SinkState → SinkState → Type 0
-PrintsPrefix command shelf out out' =
-    (how : RunEnd) × (board : State) × HasRunTo command shelf how board
-    × AddsPrefix out.written out'.written (printed_of board)
+abbrev pub PrintsPrefix : RawJob → ShelfState → SinkState → SinkState → Type 0
+PrintsPrefix job shelf out out' =
+    (how : RunEnd) × (last : World) × HasRunTo job shelf how last
+    × AddsPrefix out.written out'.written (printed last.fabric.journal)
 
 -- why the command's file has no run: a load that failed, a file that is too long, or want of memory, which is free
-abbrev pub Refuses : RawCommand → ShelfState → ShelfState → Status → Type 0
-Refuses command shelf shelf' (ReadFault file) =
-    (file ≡ command.file) × (shelf'.faults.bad ≡ Some file) × Rose shelf.faults.load_faults shelf'.faults.load_faults
-Refuses command shelf shelf' (TooLong file) =
-    (file ≡ command.file) × IfSome shelf.files (λ files. IsLonger (files file) 65_536)
-Refuses command shelf shelf' NoMemory = ⊤
-Refuses command shelf shelf' status = ⊥
+abbrev pub Refuses : RawJob → ShelfState → ShelfState → Status → Type 0
+Refuses job shelf shelf' (ReadFault file) =
+    (file ≡ job.file) × (shelf'.faults.bad ≡ Some file) × Rose shelf.faults.load_faults shelf'.faults.load_faults
+Refuses job shelf shelf' (TooLong file) =
+    (file ≡ job.file) × IfSome shelf.files (λ files. IsLonger (files file) 65_536)
+Refuses job shelf shelf' NoMemory = ⊤
+Refuses job shelf shelf' status = ⊥
 
 -- what a status says of the command, and of the shelf and the sink before and after the call
-abbrev pub Says : RawCommand → ShelfState → ShelfState → SinkState → SinkState → Status → Type 0
-Says command shelf shelf' out out' Ended = Prints command shelf out out' end.Ended
-Says command shelf shelf' out out' Stopped = Prints command shelf out out' end.Stopped
-Says command shelf shelf' out out' CyclesSpent = Prints command shelf out out' end.CyclesSpent
-Says command shelf shelf' out out' Waiting = Prints command shelf out out' end.Waiting
-Says command shelf shelf' out out' (WriteFault file) =
-    (file ≡ codes "output") × Rose out.faults out'.faults × PrintsPrefix command shelf out out'
-Says command shelf shelf' out out' NoMemory = (out' ≡ out) ⊎ PrintsPrefix command shelf out out'
-Says command shelf shelf' out out' status = Refuses command shelf shelf' status × (out' ≡ out)
+abbrev pub Says : RawJob → ShelfState → ShelfState → SinkState → SinkState → Status → Type 0
+Says job shelf shelf' out out' Ended = Prints job shelf out out' (end.Rest rest.Ended)
+Says job shelf shelf' out out' Waiting = Prints job shelf out out' (end.Rest rest.Waiting)
+Says job shelf shelf' out out' Stopped = Prints job shelf out out' (end.Rest rest.Stopped)
+Says job shelf shelf' out out' CyclesSpent = Prints job shelf out out' end.CyclesSpent
+Says job shelf shelf' out out' JournalFull = Prints job shelf out out' end.JournalFull
+Says job shelf shelf' out out' (WriteFault file) =
+    (file ≡ codes "output") × Rose out.faults out'.faults × PrintsPrefix job shelf out out'
+Says job shelf shelf' out out' NoMemory = (out' ≡ out) ⊎ PrintsPrefix job shelf out out'
+Says job shelf shelf' out out' status = Refuses job shelf shelf' status × (out' ≡ out)
+
+-- `raw` changes no file
+pub record SaysRaw (job : RawJob) (shelf shelf' : ShelfState) (out out' : SinkState) (status : Status) : Type 0 where
+  pub says : Says job shelf shelf' out out' status
+  pub files : shelf'.files ≡ shelf.files
 
 -- words that are no command leave all as it is
 abbrev pub SaysUsage : ShelfState → ShelfState → SinkState → SinkState → Status → Type 0
 SaysUsage shelf shelf' out out' Usage = (shelf' ≡ shelf) × (out' ≡ out)
+SaysUsage shelf shelf' out out' NoMemory = (shelf' ≡ shelf) × (out' ≡ out)
 SaysUsage shelf shelf' out out' status = ⊥
 
 -- what a status says of the words
-abbrev pub Answers : Option RawCommand → ShelfState → ShelfState → SinkState → SinkState → Status → Type 0
+abbrev pub Answers : Option Command → ShelfState → ShelfState → SinkState → SinkState → Status → Type 0
 Answers None = SaysUsage
-Answers (Some command) = Says command
+Answers (Some (Raw file cycles)) = SaysRaw (record { file = file; cycles = cycles })
+Answers (Some (Run board cycles entries journal)) = SaysRun (record { file = board; cycles = cycles; entries = entries; journal = journal })
 
 -- a load that failed is answered by its fault, or by want of memory
 abbrev pub CountsLoads : ℕ → ℕ → Status → Type 0
@@ -113,19 +101,32 @@ abbrev pub IsTold : SinkState → SinkState → List ℕ → Type 0
 IsTold err err' line = (answer : Result ⊤ StoreFault) × Adds err err' line answer
 
 -- the shelf tells the file, and no fault was counted
-pub record IsFair (command : RawCommand) (image : List ℕ) (shelf shelf' : ShelfState) (out out' : SinkState) : Type 0 where
+pub record IsFair (name : List ℕ) (image : List ℕ) (shelf shelf' : ShelfState) (out out' : SinkState) : Type 0 where
   pub files : Files
   pub told : shelf.files ≡ Some files
-  pub there : files command.file ≡ Some image
+  pub there : files name ≡ Some image
   pub loads : ¬ Rose shelf.faults.load_faults shelf'.faults.load_faults
   pub writes : ¬ Rose out.faults out'.faults
 
--- 0 to 3, or want of memory
+-- the shelf tells the files of a board that has all that a run needs, and no fault was counted
+pub record IsFairRun (file : List ℕ) (journal : Option (List ℕ)) (shelf shelf' : ShelfState) (out out' : SinkState) : Type 0 where
+  pub files : Files
+  pub told : shelf.files ≡ Some files
+  pub board : BoardFile
+  pub views : List View
+  pub inputs : List (List ℕ)
+  pub job : IsJobOf (Some files) file journal board views inputs
+  pub loads : ¬ Rose shelf.faults.load_faults shelf'.faults.load_faults
+  pub stores : ¬ Rose shelf.faults.write_faults shelf'.faults.write_faults
+  pub writes : ¬ Rose out.faults out'.faults
+
+-- the run ended, or want of memory
 abbrev pub HasRun : Status → Type 0
 HasRun Ended = ⊤
+HasRun Waiting = ⊤
 HasRun Stopped = ⊤
 HasRun CyclesSpent = ⊤
-HasRun Waiting = ⊤
+HasRun JournalFull = ⊤
 HasRun NoMemory = ⊤
 HasRun status = ⊥
 

@@ -1,21 +1,20 @@
-//! An emulator of MicroBlaze boards: `mbsim raw FILE CYCLES`.
+//! An emulator of MicroBlaze boards: `mbsim run BOARD`, and `mbsim raw FILE CYCLES` for one core.
 #![tactic(auto)]
 
-mod board;
-mod ends;
-mod ports;
+#[cfg(test)]
+mod board_tests;
 mod print;
-mod probes;
+mod raw;
 mod run;
+mod runs;
 mod status;
 mod tell;
 #[cfg(test)]
 mod tests;
 mod top;
-mod words;
 
 use host_io::{DirShelf, Sink, StdSink, StdSource};
-use probes::ProbeSet;
+use probe_set::ProbeSet;
 use status::Status;
 use std::io::ErrorKind;
 use std::process::ExitCode;

@@ -1,20 +1,49 @@
-// Printing the items that left, and words as hexadecimal digits.
-ghost use Rattle.std.specs.Prelude.{◌≡◌, ◌<◌};
+// Printing the items that left.
+ghost use Rattle.std.specs.Prelude.{◌≡◌, slice_get};
 ghost use Rattle.host_io.specs.Outside.{Adds};
-ghost use Rattle.mb_sim.specs.Lines.{hex_digit, hex_of, line_of, lines_of};
+ghost use Rattle.mb_sim.specs.Lines.{line_of};
+ghost use Rattle.mb_sim.specs.Raw.{printed, printed_at, printed_by};
 
 use axi_link::Item;
 use host_io::{ShortText, Sink, StoreFault};
+use run_journal::{Entry, Journal, What, hex_of};
 use std::alloc::Global;
 
-/// Writes a line for each item, in order.
-pub fn print_items<O: Sink>(alloc: Global, out: &mut O, items: &[Item]) -> Result<(), StoreFault>
-    ensures { Adds (O.state out.old) (O.state out.new) (lines_of items.now) result }
+/// Writes a line for each item that the host got, in order.
+pub fn print_items<O: Sink>(alloc: Global, out: &mut O, journal: &Journal) -> Result<(), StoreFault>
+    ensures { Adds (O.state out.old) (O.state out.new) (printed journal.now.entries) result }
 {
-    for item in items {
-        out.write_all(alloc, line_of(*item).as_bytes())?;
+    for k in 0..journal.len() {
+        print_at(alloc, out, journal, k)?;
     }
     Ok(())
+}
+
+/// Writes the line of the item of an entry, where the host got one.
+#[tactic(auto, using(run_output::proofs::Printing::adds_nothing))]
+fn print_at<O: Sink>(
+    alloc: Global,
+    out: &mut O,
+    journal: &Journal,
+    k: usize,
+) -> Result<(), StoreFault>
+    ensures { Adds (O.state out.old) (O.state out.new) (printed_at (slice_get journal.now.entries k)) result }
+{
+    match journal.entry(k) {
+        Some(entry) => print_entry(alloc, out, &entry),
+        None => Ok(()),
+    }
+}
+
+/// Writes the line of an entry's item, where the host got one.
+#[tactic(auto, using(run_output::proofs::Printing::adds_nothing))]
+fn print_entry<O: Sink>(alloc: Global, out: &mut O, entry: &Entry) -> Result<(), StoreFault>
+    ensures { Adds (O.state out.old) (O.state out.new) (printed_by entry.now.what) result }
+{
+    match entry.what {
+        What::HostGot { item, .. } => out.write_all(alloc, line_of(item).as_bytes()),
+        _ => Ok(()),
+    }
 }
 
 /// The line of an item: its control bit, a space, eight digits and a line feed.
@@ -27,32 +56,4 @@ fn line_of(item: Item) -> ShortText
     line.push(&hex_of(item.word));
     line.push(b"\n");
     line
-}
-
-/// A word as eight upper-case hexadecimal digits.
-#[tactic(auto, unfolding(crate::specs::Lines::hex_of))]
-fn hex_of(word: u32) -> [u8; 8]
-    ensures { result ≡ hex_of word }
-{
-    [
-        hex_digit(word >> 28 & 15),
-        hex_digit(word >> 24 & 15),
-        hex_digit(word >> 20 & 15),
-        hex_digit(word >> 16 & 15),
-        hex_digit(word >> 12 & 15),
-        hex_digit(word >> 8 & 15),
-        hex_digit(word >> 4 & 15),
-        hex_digit(word & 15),
-    ]
-}
-
-fn hex_digit(value: u32) -> u8
-    requires { value < 16 }
-    ensures { result ≡ hex_digit value }
-{
-    if value < 10 {
-        b'0' + value as u8
-    } else {
-        b'A' + (value as u8 - 10)
-    }
 }

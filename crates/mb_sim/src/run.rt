@@ -1,43 +1,210 @@
-// A whole run.
-ghost use Rattle.std.specs.Prelude.{◌≡◌, IfSome};
-ghost use Rattle.mb_sim.specs.Run.{EndsAt, board_after};
+// `run`: a board with its images and input files, to its output files, journal and report.
+ghost use Rattle.std.specs.Prelude.{◌≡◌, ◌≤◌, IfSome, Ok, codes, length, map, slice_get};
+ghost use Rattle.core_iface.specs.Plain.{plain_state};
+ghost use Rattle.board_machine.specs.Cycles.{CanRun};
+ghost use Rattle.board_machine.specs.World.{Start};
+ghost use Rattle.board_run.specs.Boards.{AreNew, IsBuildable};
+ghost use Rattle.mb_sim.specs.Board.{Plays, Prints, PutsOut, Says, status_of_output, status_of_refusal};
+ghost use Rattle.mb_sim.specs.Top.{CountsLoads, CountsWrites};
 
-use crate::board::Board;
-use crate::ends::RunEnd;
-use byte_mem::Memory;
+use crate::raw::output;
+use crate::runs::status_of;
+use crate::status::Status;
+use board_file::BoardFile;
+use board_load::{Job, Refusal, load_job};
+use board_run::{Board, RunEnd};
+use core_iface::{Core, PlainCore};
+use host_io::{FileName, Shelf, Sink, StoreFault};
+use probe_set::ProbeSet;
+use run_output::{Chunks, CoreEnd, CoreEnds, OutputFault, print_report};
 use std::alloc::Global;
 
-/// Where a run ended: how, at the start of which cycle, and the board then.
-#[derive(Drop)]
-pub struct Ran {
-    pub end: RunEnd,
-    pub cycles: u32,
-    pub board: Board,
+/// The words of `run`.
+#[derive(Debug, Drop)]
+pub struct RunWords {
+    /// The board file.
+    pub file: FileName,
+    /// The limit of cycles.
+    pub cycles: u64,
+    /// The room for journal entries.
+    pub entries: u32,
+    /// The file for the journal, where one is named.
+    pub journal: Option<FileName>,
 }
 
-/// Runs a memory from address 0 with at most so many cycles; `None` for want of memory.
-pub fn run(alloc: Global, memory: Memory, limit: u32) -> Option<Ran>
-    ensures ends { IfSome result (λ ran. EndsAt memory limit ran.cycles ran.end) }
-    ensures board { IfSome result (λ ran. ran.board ≡ board_after memory ran.cycles) }
-{
-    let mut board = Board::new(alloc, memory)?;
-    for number in 0..limit {
-        let here = board.here();
-        if let Some(end) = board.rest(&here) {
-            return Some(Ran {
-                end,
-                cycles: number,
-                board,
-            });
-        }
-        let Ok(()) = board.cycle(&here) else {
-            return None;
-        };
+/// A board before its first event, and the buffer for its files.
+#[derive(Drop)]
+struct Ready {
+    file: BoardFile,
+    board: Board<PlainCore>,
+    chunks: Chunks,
+}
+
+/// How the cores of a board stand.
+#[derive(Clone, Copy)]
+struct BoardEnds<'a> {
+    board: &'a Board<PlainCore>,
+}
+
+impl CoreEnds for BoardEnds<'_> {
+    ghost use Rattle.std.specs.Prelude.{length};
+    ghost use Rattle.mb_sim.specs.Board.{ends_of};
+
+    ghost count = { λ e. length e.board.now.cores };
+
+    ghost ends = { λ e. ends_of e.board.now };
+
+    fn count(&self) -> u16 {
+        self.board.cores()
     }
-    let end = board.rest(&board.here()).unwrap_or(RunEnd::CyclesSpent);
-    Some(Ran {
-        end,
-        cycles: limit,
+
+    fn end(&self, core: u16) -> CoreEnd {
+        let chosen = self.board.core(core);
+        CoreEnd {
+            idle: self.board.idle(core),
+            pc: chosen.arch().pc,
+            acts: chosen.acts(),
+        }
+    }
+}
+
+/// Runs the board of a file, writes its files and then the journal, and prints the report.
+pub fn run<S: Shelf, O: Sink>(
+    alloc: Global,
+    words: &RunWords,
+    shelf: &mut S,
+    out: &mut O,
+    probes: &mut ProbeSet,
+) -> Status
+    requires few { words.now.cycles ≤ 1_000_000_000_000 }
+    ensures says { Says words.now (S.state shelf.old) (S.state shelf.new) (O.state out.old) (O.state out.new) result }
+    ensures loads { CountsLoads (S.state shelf.old).faults.load_faults (S.state shelf.new).faults.load_faults result }
+    ensures writes { CountsWrites (O.state out.old).faults (O.state out.new).faults result }
+    ensures shelf_writes { CountsWrites (S.state shelf.old).faults.write_faults (S.state shelf.new).faults.write_faults result }
+{
+    let job = match load_job(alloc, shelf, &words.file, &words.journal) {
+        Ok(job) => job,
+        Err(refusal) => return status_of_refusal(refusal),
+    };
+    match make_ready(alloc, job, words.entries) {
+        Some(ready) => play(alloc, ready, words, shelf, out, probes),
+        None => Status::NoMemory,
+    }
+}
+
+/// The status of a board that isn't run.
+fn status_of_refusal(refusal: Refusal) -> Status
+    ensures { result ≡ status_of_refusal refusal }
+{
+    match refusal {
+        Refusal::Usage => Status::Usage,
+        Refusal::CannotRead { file } => Status::ReadFault { file },
+        Refusal::BadBoard { code, place } => Status::BadBoard { code, place },
+        Refusal::NotYet { place } => Status::NotYet { place },
+        Refusal::BadImage { core, code, at } => Status::BadImage { core, code, at },
+        Refusal::BadInput { file, offset } => Status::BadInput { file, offset },
+        Refusal::TooLong { file } => Status::TooLong { file },
+        Refusal::NoMemory => Status::NoMemory,
+    }
+}
+
+/// Takes all the memory that the run needs; `None` for want of it.
+fn make_ready(alloc: Global, job: Job, entries: u32) -> Option<Ready>
+    requires new { AreNew job.board.cores (map plain_state job.cores.items) }
+    requires buildable { IsBuildable job.board }
+    ensures file { IfSome result (λ r. r.file ≡ job.board) }
+    ensures start { IfSome result (λ r. Start job.board (map (λ core. (plain_state core).view) job.cores.items) job.inputs.links r.board) }
+    ensures room { IfSome result (λ r. r.board.fabric.spare ≡ entries) }
+{
+    let chunks = Chunks::reserve(alloc).ok()?;
+    let Job {
+        board: file,
+        cores,
+        inputs,
+    } = job;
+    let board = Board::build(alloc, &file, cores, inputs, entries as usize).ok()?;
+    Some(Ready {
+        file,
         board,
+        chunks,
     })
+}
+
+/// Runs a board and puts out what it gives.
+fn play<S: Shelf, O: Sink>(
+    alloc: Global,
+    ready: Ready,
+    words: &RunWords,
+    shelf: &mut S,
+    out: &mut O,
+    probes: &mut ProbeSet,
+) -> Status
+    requires can { CanRun words.now.cycles ready.board }
+    requires count { length ready.board.cores ≡ length ready.file.cores }
+    ensures plays { Plays words.now ready.file ready.board (S.state shelf.old) (S.state shelf.new) (O.state out.old) (O.state out.new) result }
+{
+    let mut ready = ready;
+    let end = ready.board.run(words.cycles, probes);
+    put_out(alloc, &mut ready, end, &words.journal, shelf, out)
+}
+
+/// Writes the files of a run that ended so, and then its report.
+fn put_out<S: Shelf, O: Sink>(
+    alloc: Global,
+    ready: &mut Ready,
+    end: RunEnd,
+    journal: &Option<FileName>,
+    shelf: &mut S,
+    out: &mut O,
+) -> Status
+    requires count { length ready.old.board.cores ≡ length ready.old.file.cores }
+    ensures puts { PutsOut journal.now ready.old.file ready.old.board end (S.state shelf.old) (S.state shelf.new) (O.state out.old) (O.state out.new) result }
+{
+    let Ready {
+        file,
+        board,
+        chunks,
+    } = ready;
+    match chunks.write_outputs(alloc, shelf, file, board.journal(), journal) {
+        Ok(()) => print(alloc, file, board, end, out),
+        Err(fault) => status_of_output(fault),
+    }
+}
+
+/// The status of a file that isn't written.
+fn status_of_output(fault: OutputFault) -> Status
+    ensures { result ≡ status_of_output fault }
+{
+    match fault {
+        OutputFault::Failed { file } => Status::WriteFault { file },
+        OutputFault::NoMemory => Status::NoMemory,
+    }
+}
+
+/// Prints the report of a run that ended so.
+fn print<O: Sink>(
+    alloc: Global,
+    file: &BoardFile,
+    board: &Board<PlainCore>,
+    end: RunEnd,
+    out: &mut O,
+) -> Status
+    requires count { length board.now.cores ≡ length file.now.cores }
+    ensures { Prints file.now board.now end (O.state out.old) (O.state out.new) result }
+{
+    let status = status_of(end);
+    let ends = BoardEnds { board };
+    match print_report(
+        alloc,
+        out,
+        file,
+        &ends,
+        board.journal(),
+        status.code(),
+        board.number(),
+    ) {
+        Ok(()) => status,
+        Err(StoreFault::Failed) => Status::WriteFault { file: output() },
+        Err(StoreFault::NoMemory) => Status::NoMemory,
+    }
 }

@@ -4,7 +4,8 @@ ghost use Rattle.mb_sim.specs.Lines.{line_with, told};
 ghost use Rattle.mb_sim.specs.Top.{IsTold};
 
 use crate::status::Status;
-use host_io::{LongText, Sink};
+use host_io::{FileName, LongText, Name, Place, Sink};
+use itoa::Buffer;
 use std::alloc::Global;
 
 /// Writes the line of a status, where it has one. What the stream answers is let go.
@@ -22,11 +23,19 @@ fn line_of(status: &Status) -> LongText
     ensures { result ≡ told status.now }
 {
     match status {
-        Status::Ended | Status::Waiting | Status::Stopped | Status::CyclesSpent => LongText::new(),
+        Status::Ended
+        | Status::Waiting
+        | Status::Stopped
+        | Status::CyclesSpent
+        | Status::JournalFull => LongText::new(),
         Status::Usage => line_with(b"usage", b"", b""),
         Status::ReadFault { file } => line_with(b"cannot read ", file.as_bytes(), b""),
         Status::WriteFault { file } => line_with(b"cannot write ", file.as_bytes(), b""),
+        Status::BadBoard { code, place } => board_line(*code, place),
+        Status::BadImage { core, code, at } => image_line(core, *code, *at),
         Status::NoMemory => line_with(b"no memory", b"", b""),
+        Status::BadInput { file, offset } => input_line(file, *offset),
+        Status::NotYet { place } => line_with(b"not built at ", place.as_bytes(), b""),
         Status::TooLong { file } => line_with(b"", file.as_bytes(), b" is too long"),
     }
 }
@@ -43,6 +52,47 @@ fn line_with(before: &[u8], shown: &[u8], after: &[u8]) -> LongText
     line.push(before);
     line.push(shown);
     line.push(after);
+    line.push(b"\n");
+    line
+}
+
+/// The line of a fault of a board file.
+fn board_line(code: u16, place: &Place) -> LongText
+    ensures { result ≡ told (Status.BadBoard code place.now) }
+{
+    let mut line = LongText::new();
+    line.push(b"mbsim: board ");
+    line.push(Buffer::new().format(code as u64).as_bytes());
+    line.push(b" at ");
+    line.push(place.as_bytes());
+    line.push(b"\n");
+    line
+}
+
+/// The line of a fault of an image.
+fn image_line(core: &Name, code: u16, at: u32) -> LongText
+    ensures { result ≡ told (Status.BadImage core.now code at) }
+{
+    let mut line = LongText::new();
+    line.push(b"mbsim: image of ");
+    line.push(core.as_bytes());
+    line.push(b" ");
+    line.push(Buffer::new().format(code as u64).as_bytes());
+    line.push(b" at ");
+    line.push(Buffer::new().format(at as u64).as_bytes());
+    line.push(b"\n");
+    line
+}
+
+/// The line of a fault of an input file.
+fn input_line(file: &FileName, offset: u32) -> LongText
+    ensures { result ≡ told (Status.BadInput file.now offset) }
+{
+    let mut line = LongText::new();
+    line.push(b"mbsim: input ");
+    line.push(file.as_bytes());
+    line.push(b" at ");
+    line.push(Buffer::new().format(offset as u64).as_bytes());
     line.push(b"\n");
     line
 }

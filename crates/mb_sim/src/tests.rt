@@ -1,11 +1,11 @@
 // Worked rows, over files and streams in memory.
 ghost use Rattle.std.specs.Prelude.{None};
 
-use crate::probes::ProbeSet;
 use crate::top::mbsim;
 use host_io::{
     Blob, Failing, FileName, LoadFault, MemFile, MemShelf, MemSink, MemSource, Shelf, StoreFault,
 };
+use probe_set::ProbeSet;
 use std::alloc::Global;
 use std::process::Abort;
 use std::test::Fail;
@@ -82,7 +82,7 @@ fn runs_end_as_they_should(rt: HostRuntime) -> Result<(), Fail> {
     let full = Vec::from_elem(rt.alloc(), 0, 65_536)?;
     let five: &[u8] = b"0 00000005\n";
     // The cycles, the image, the status and what is printed.
-    let rows: [(&str, &[u8], u8, &[u8]); 8] = [
+    let rows: [(&str, &[u8], u8, &[u8]); 9] = [
         // The item is sent in cycle 1, leaves in cycle 2, and the board is still at cycle 3.
         ("10", PUT_FIVE, 0, five),
         ("0000003", PUT_FIVE, 0, five),
@@ -94,6 +94,7 @@ fn runs_end_as_they_should(rt: HostRuntime) -> Result<(), Fail> {
         ("1000000", b"", 2, b""),
         ("16385", &full, 2, b""),
         ("16384", b"", 3, b""),
+        ("1000000000000", PUT_FIVE, 0, five),
     ];
     for (cycles, image, code, printed) in rows {
         check(
@@ -107,6 +108,28 @@ fn runs_end_as_they_should(rt: HostRuntime) -> Result<(), Fail> {
         )?;
     }
     Ok(())
+}
+
+/// `addik r3, r0, 1`, `put r3, rfsl0`, and a branch back to the put.
+const ENDLESS_PUT: &[u8] = &[0x30, 0x60, 0, 1, 0x6C, 3, 0x80, 0, 0xB8, 0, 0xFF, 0xFC];
+
+#[test]
+fn a_full_journal_ends_a_run(rt: HostRuntime) -> Result<(), Fail> {
+    let alloc = rt.alloc();
+    // The last cycle begins with room for 6 entries: 524,285 items left.
+    let mut printed = Vec::new(alloc);
+    for _item in 0..524_285 {
+        printed.extend_from_slice(b"0 00000001\n")?;
+    }
+    check(
+        &rt,
+        alloc,
+        &Row {
+            code: 10,
+            printed: &printed,
+            ..Row::of(&["raw", "image", "10000000"], ENDLESS_PUT)
+        },
+    )
 }
 
 /// The bytes of words that are written as hexadecimal digits.
@@ -181,8 +204,8 @@ fn other_words_are_usage(rt: HostRuntime) -> Result<(), Fail> {
         &["raw", "image", "+1"],
         &["raw", "image", ""],
         &["raw", "image", "1x"],
-        &["raw", "image", "1000001"],
-        &["raw", "image", "00000010"],
+        &["raw", "image", "1000000000001"],
+        &["raw", "image", "00000000000000000010"],
         &["raw", "image", "1", "1"],
         &["raw", "-image", "1"],
         &["raw", "im age", "1"],

@@ -1,14 +1,22 @@
-use Rattle.std.proofs.Common.{ℕ, List, Err, subst, ◌∙◌}
-use Rattle.host_io.specs.Outside.{Adds}
+use Rattle.std.proofs.Common.{◌<◌, ◌≤◌, length, arith}
 use Rattle.std.proofs.lemmas.Result.{err_from_is_err_and}
-use Rattle.mb_sim.proofs.Printed.{adds_after}
+use Rattle.mb_sim.proofs.Printed.{all_printed, entry_added, entry_refused}
 use Rattle.mb_sim.proofs.print.print_items.Goals as goal
 
-pub returns-in_err-write_all : goal.returns-in_err-write_all
-returns-in_err-write_all g c =
+pub returns-in_err-print_at : goal.returns-in_err-print_at
+returns-in_err-print_at g c =
     let p = err_from_is_err_and c.from_residual.result c.from_residual.ensures.1 in
-    let P : List ℕ → Type 0 = λ line. Adds (g.O.Sink.state c.loop-item.out) (g.O.Sink.state c.write_all.new.self) line (Err c.in_err-write_all.field-0.0) in
+    let l : c.loop-k.k < length c.args.journal.now.entries = omega (arith, c.loop-k-test.true, c.len-k-end.ensures) in
     rw (p.1, p.2)
-    (adds_after (g.O.Sink.state c.args.out.now) (g.O.Sink.state c.loop-item.out) (g.O.Sink.state c.write_all.new.self)
-    c.args.items.now c.loop-item.item-index _ c.loop-item-test.true c.loop-item.invariant.written c.loop-item.invariant.faults
-    c.in_err-write_all.field-0.0 (subst P (c.as_bytes.ensures.bytes ∙ c.line_of.ensures) c.in_err-write_all.ensures.answer))
+    (entry_refused (g.O.Sink.state c.args.out.now) (g.O.Sink.state c.loop-k.out) (g.O.Sink.state c.print_at.new.out) c.args.journal.now.entries c.loop-k.k
+    c.in_err-print_at.field-0.0 l c.loop-k.invariant c.in_err-print_at.ensures)
+
+pub loop-k-preserved : goal.loop-k-preserved
+loop-k-preserved g c =
+    let l : c.loop-k.k < length c.args.journal.now.entries = omega (arith, c.loop-k-test.true, c.len-k-end.ensures) in
+    entry_added (g.O.Sink.state c.args.out.now) (g.O.Sink.state c.loop-k.out) (g.O.Sink.state c.print_at.new.out) c.args.journal.now.entries c.loop-k.k l c.loop-k.invariant c.in_ok-print_at.ensures
+
+pub returns : goal.returns
+returns g c =
+    let l : length c.args.journal.now.entries ≤ c.loop-k.k = omega (arith, c.loop-k-test.false, c.len-k-end.ensures) in
+    all_printed (g.O.Sink.state c.args.out.now) (g.O.Sink.state c.loop-k.out) c.args.journal.now.entries c.loop-k.k l c.loop-k.invariant

@@ -1,17 +1,36 @@
-use Rattle.std.proofs.Common.{arith, below_more, sym, ap, ◌∙◌}
-use Rattle.mb_sim.specs.Run.{board_after, cycle}
-use Rattle.mb_sim.proofs.CycleStart.{after_one_more, goes_on_at}
+use Rattle.std.proofs.Common.{◌≡◌, ℕ, List, map, refl, sym, ap, subst}
+use Rattle.host_io.specs.Outside.{ShelfState}
+use Rattle.core_iface.specs.Plain.{plain_state}
+use Rattle.core_iface.specs.declared.plain.PlainCore.{PlainCore}
+use Rattle.mb_sim.specs.declared.status.Status.{Status}
+use Rattle.mb_sim.specs.Board.{Says, no_memory, refused}
+use Rattle.mb_sim.specs.Top.{CountsLoads, CountsWrites}
+use Rattle.mb_sim.proofs.Boards.{puts_loads, puts_stores, puts_writes, says_played}
 use Rattle.mb_sim.proofs.run.run.Goals as goal
 
-pub loop-number-init : goal.loop-number-init
-unfolding board_after
-loop-number-init c = record { board = c.in_ok-board.ensures; goes_on = λ k h. absurd (omega arith) }
+pub returns-in-Err-clause-says : goal.returns-in-Err-clause-says
+returns-in-Err-clause-says g c =
+    let P : Status → Type 0 = λ s. Says c.args.words.now (g.S.Shelf.state c.args.shelf.now) (g.S.Shelf.state c.load_job.new.shelf) (g.O.Sink.state c.args.out.now) (g.O.Sink.state c.args.out.now) s in
+    subst P (sym c.status_of_refusal.ensures) (refused c.in-Err.refusal c.in-Err.ensures.refused c.in-Err.ensures.keeps.files refl)
 
-pub loop-number-preserved : goal.loop-number-preserved
-loop-number-preserved c =
-    record {
-      board = c.in-Ok.ensures ∙ ap cycle c.loop-number.invariant.board ∙ sym (after_one_more c.args.memory c.loop-number.number);
-      goes_on = below_more _ _ c.loop-number.invariant.goes_on
-          (rw (← c.loop-number.invariant.board)
-          (goes_on_at c.args.limit c.loop-number.number c.loop-number.board c.loop-number-test.true (sym c.in_default.ensures)));
-    }
+pub returns-in-None-clause-says : goal.returns-in-None-clause-says
+returns-in-None-clause-says g c = no_memory c.in-Ok.ensures.quiet refl
+
+pub returns-in-Some-clause-says : goal.returns-in-Some-clause-says
+returns-in-Some-clause-says g c =
+    says_played c.args.words.now (g.S.Shelf.state c.args.shelf.now) (g.S.Shelf.state c.load_job.new.shelf) (g.S.Shelf.state c.play.new.shelf) (g.O.Sink.state c.args.out.now) (g.O.Sink.state c.play.new.out) c.play.result
+    c.in-Ok.job.board c.in-Some.ready.file (map (λ (core : PlainCore). (plain_state core).view) c.in-Ok.job.cores.items) c.in-Ok.job.inputs.links c.in-Some.ready.board
+    c.in-Ok.ensures.ok c.in-Some.ensures.file c.in-Some.ensures.start c.in-Some.ensures.room c.in-Ok.ensures.quiet c.play.ensures.plays
+
+pub returns-in-Some-clause-loads : goal.returns-in-Some-clause-loads
+returns-in-Some-clause-loads g c =
+    let P : ShelfState → Type 0 = λ s. CountsLoads s.faults.load_faults (g.S.Shelf.state c.play.new.shelf).faults.load_faults c.play.result in
+    subst P c.in-Ok.ensures.quiet (puts_loads _ _ _ _ _ _ _ _ _ c.play.ensures.plays.puts)
+
+pub returns-in-Some-clause-writes : goal.returns-in-Some-clause-writes
+returns-in-Some-clause-writes g c = puts_writes _ _ _ _ _ _ _ _ _ c.play.ensures.plays.puts
+
+pub returns-in-Some-clause-shelf_writes : goal.returns-in-Some-clause-shelf_writes
+returns-in-Some-clause-shelf_writes g c =
+    let P : ShelfState → Type 0 = λ s. CountsWrites s.faults.write_faults (g.S.Shelf.state c.play.new.shelf).faults.write_faults c.play.result in
+    subst P c.in-Ok.ensures.quiet (puts_stores _ _ _ _ _ _ _ _ _ c.play.ensures.plays.puts)

@@ -1,0 +1,63 @@
+-- Every run keeps what a run has.
+use Rattle.std.proofs.Common.{◌≡◌, ℕ, zero, suc, Bool, List, [], ◌∷◌, ◌++◌, map, Option, Some, false, true, refl, ap, sym, ◌∙◌, subst, slice_get}
+use Rattle.std.specs.Option.{option_map}
+use Rattle.std.specs.List.{list_any}
+use Rattle.std.proofs.lemmas.Option.{same_Some, slice_get-map}
+use Rattle.isa_step.specs.Deeds.{View}
+use Rattle.isa_step.specs.History.{state_after}
+use Rattle.run_journal.specs.declared.entry.Entry.{Entry}
+use Rattle.run_journal.specs.Files.{tape}
+use Rattle.board_file.specs.declared.board.BoardFile.{BoardFile}
+use Rattle.board_machine.specs.declared.events.Event.{Event}
+use Rattle.board_machine.specs.World.{World, CoreAt, Start, Reached, Steps}
+use Rattle.board_machine.specs.History.{Tells, TakeStands, is_take, responses, view_told}
+use Rattle.board_machine.specs.Runs.{IsRunFrom, KeepsRest, KeepsRuns}
+use Rattle.board_machine.specs.Fabric.{Fabric, or_low, hopes_at}
+use Rattle.board_machine.proofs.Steps.{step_kept, steps_append}
+use Rattle.board_machine.proofs.Staying.{IsWired, steps_rest}
+use Rattle.board_machine.proofs.Tells.{steps_tell}
+
+after_none : (v x : View) (t : _) (k : ℕ) → k ≡ 0 → v ≡ x → state_after v t k ≡ Some x
+unfolding state_after
+after_none v x t k e f = rw (e, f) refl
+
+start_tells : (b : BoardFile) (views : List View) (inputs : List (List ℕ)) (w : World) → Start b views inputs w → Tells views w.cores w.fabric.journal
+start_tells b views inputs w s = record {
+  each = λ core c v q r.
+      let e : Some c.view ≡ Some v = ap (option_map (λ (s : CoreAt). s.view)) (sym q) ∙ sym (slice_get-map (λ (s : CoreAt). s.view) w.cores core) ∙ ap (λ (vs : List View). slice_get vs core) s.has_views ∙ r in
+      after_none v c.view (responses w.fabric.journal core) c.acts (s.fresh core c q).0 (sym (same_Some _ _ e));
+  takes = λ core act c first q r h.
+      let z : false ≡ true = sym (ap (λ j. list_any (λ (e : Entry). is_take e.what) (tape j core act)) s.journal) ∙ h in
+      cc;
+  none_ahead = λ core act c q l. ap (λ (j : List Entry). tape j core act) s.journal;
+}
+
+pub keeps_runs : (old new : World) (es : List Event) → Steps old es new → KeepsRuns old new
+keeps_runs old new es h b views inputs r =
+    let all = steps_append r.first old new r.events es r.ran h in
+    record {
+      reached = record { first = r.first; events = r.events ++ es; began = r.began; ran = all };
+      told = steps_tell views r.first new (r.events ++ es) all (start_tells b views inputs r.first r.began);
+    }
+
+-- each line is low
+
+low_at : (cores : List CoreAt) (core : ℕ) → or_low (slice_get (map (λ s. false) cores) core) ≡ false
+low_at [] core = refl
+low_at (s ∷ cores) zero = refl
+low_at (s ∷ cores) (suc core) = low_at cores core
+
+steps_lines : (w v : World) (es : List Event) → Steps w es v → v.fabric.lines ≡ w.fabric.lines
+steps_lines w v [] h = ap (λ (x : World). x.fabric.lines) h
+steps_lines w v (e ∷ es) h = steps_lines h.0 v es h.2 ∙ (step_kept w h.0 e h.1).lines
+
+wired : (b : BoardFile) (views : List View) (inputs : List (List ℕ)) (w : World) → Reached b views inputs w → IsWired w.fabric
+wired b views inputs w r = record {
+  line = λ core e.
+      let low : or_low (slice_get w.fabric.lines core) ≡ false = ap (λ (ls : List Bool). or_low (slice_get ls core)) (steps_lines r.first w r.events r.ran ∙ r.began.lines) ∙ low_at r.first.cores core in
+      let z : false ≡ true = sym low ∙ e in
+      cc;
+}
+
+pub keeps_rest : (old new : World) (es : List Event) → Steps old es new → KeepsRest old new
+keeps_rest old new es h b views inputs r s = steps_rest old new es (wired b views inputs old r) h s

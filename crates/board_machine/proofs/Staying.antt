@@ -1,0 +1,278 @@
+-- A board that is still stays as it is, but for waits that are entered; and the test of rest is the definition of still.
+use Rattle.std.proofs.Common.{◌≡◌, ℕ, zero, suc, ◌+◌, ◌<◌, ◌≤◌, ◌↔◌, IsSome, List, [], ◌∷◌, ◌++◌, length, map, Option, Some, None, refl, ap, sym, ◌∙◌, subst, inl, inr, ◌⊎◌, arith, slice_get, slice_set, Bool, true, false, cond, ◌&&◌, ◌||◌, ◌==◌, nat_lt, ltb}
+use Rattle.std.specs.Option.{option_map, option_and_then, is_none, is_some}
+use Rattle.std.specs.List.{AllByRecursion}
+use Rattle.std.proofs.lemmas.Bool.{eq-eqb}
+use Rattle.std.proofs.lemmas.Bool.Decides.{nat_tests}
+use Rattle.std.proofs.lemmas.List.{append-nil, append_assoc, map-set}
+use Rattle.std.proofs.lemmas.Option.{same_Some, slice_get-map, slice_get_past, slice_get_within}
+use Rattle.core_regs.specs.declared.causes.WaitOn.{WaitOn}
+use Rattle.isa_step.specs.declared.acts.Idle.{Idle}
+use Rattle.isa_step.specs.Shown.{Shown}
+use Rattle.isa_step.specs.Deeds.{View, Deed, Due, Does, Waits, Sleeps, Ends, Stops}
+use Rattle.isa_step.specs.Due.{due}
+use Rattle.isa_step.specs.Resting.{IsHoped, idle_due, idle_view}
+use Rattle.isa_step.proofs.RestLaws.{idle_lasts}
+use Rattle.run_journal.specs.declared.entry.Entry.{Entry}
+use Rattle.run_journal.specs.declared.entry.What.{What}
+use Rattle.run_journal.specs.declared.entry.What.TheVariants.{Wait}
+use Rattle.board_file.specs.declared.board.EventRow.{EventRow}
+use Rattle.board_file.specs.declared.board.LinkRow.{LinkRow}
+use Rattle.board_machine.specs.declared.events.Event.{Event}
+use Rattle.board_machine.specs.declared.events.Event.TheVariants.{Devices, Host, Tick, Next}
+use Rattle.board_machine.specs.declared.events.Rest.{Rest}
+use Rattle.board_machine.specs.declared.events.RunEnd.TheVariants.{Rest as AtRest, CyclesSpent, JournalFull}
+use Rattle.board_machine.specs.Fabric.{Fabric, entered, entered_some, entry_of, breaks_come, host_moves, hopes_at, is_kept, move_by, move_of, part_at, moved, no_core, or_low, shown, waited}
+use Rattle.board_machine.specs.World.{World, CoreAt, Step, Steps, TickStep, TickMay, IsAct, IsFilling, IsIdle, need}
+use Rattle.board_machine.specs.Resting.{Still, Rests, and_idle, idle_at, idle_here, is_note, is_quiet_to, joined, rest_of, rest_to}
+use Rattle.board_machine.specs.Cycles.{end_at, end_of}
+use Rattle.board_machine.proofs.Lists.{all_append, and_left, and_right, and_false_left, and_false_right, inside_or_past, last_or_before, none_is, set_itself, slice_get_in, some_of}
+
+-- all but the cycle number and the journal are as before
+abbrev pub Same : Fabric → Fabric → Type 0
+Same f g = g ≡ record f { cycle = g.cycle; journal = g.journal; spare = g.spare }
+
+shown_same : (f g : Fabric) (core : ℕ) → Same f g → shown g core ≡ shown f core
+shown_same f g core s = ap (λ x. shown x core) s
+
+move_same : (f g : Fabric) (link : ℕ) → Same f g → move_of g link ≡ move_of f link
+move_same f g link s = ap (λ x. move_of x link) s
+
+same_fabric : (f g : Fabric) → g ≡ f → Same f g
+same_fabric f g e = subst (λ g. Same f g) (sym e) refl
+
+same_then : (f g h : Fabric) → Same f g → Same g h → Same f h
+same_then f g h a b = b ∙ ap (λ (x : Fabric). record x { cycle = h.cycle; journal = h.journal; spare = h.spare }) a
+
+-- a line is high only where the core has a controller
+pub record IsWired (f : Fabric) : Type 0 where
+  pub line : (core : ℕ) → or_low (slice_get f.lines core) ≡ true → (hopes_at f core).interrupt ≡ true
+
+or_left : (a b : Bool) → a ≡ true → a || b ≡ true
+or_left a b e = rw e refl
+
+hoped : (f : Fabric) (core : ℕ) → IsWired f → IsHoped (shown f core)
+hoped f core h = record {
+  interrupt = h.line core;
+  maskable = λ e. or_left _ _ e;
+  nonmaskable = λ e. or_left _ _ e;
+}
+
+wired_same : (f g : Fabric) → Same f g → IsWired f → IsWired g
+wired_same f g s h = record {
+  line = λ core e.
+      ap (λ (x : Fabric). (hopes_at x core).interrupt) s ∙ h.line core (sym (ap (λ (x : Fabric). or_low (slice_get x.lines core)) s) ∙ e);
+}
+
+-- nothing moved
+record Unmoved (w v : World) : Type 0 where
+  same : Same w.fabric v.fabric
+  views : map (λ s. s.view) v.cores ≡ map (λ s. s.view) w.cores
+  acts : map (λ s. s.acts) v.cores ≡ map (λ s. s.acts) w.cores
+  added : List Entry
+  journal : v.fabric.journal ≡ w.fabric.journal ++ added
+  notes : AllByRecursion (λ (e : Entry). is_note e.what ≡ true) added
+
+map_some : {X Y : Type 0} (f : X → Y) (o : Option X) (y : Y) → option_map f o ≡ Some y → (x : X) × (o ≡ Some x) × (f x ≡ y)
+map_some f None y e = cc
+map_some f (Some x) y e = (x, refl, same_Some _ _ e)
+
+view_was : (w v : World) (k : ℕ) (s : CoreAt) → map (λ s. s.view) v.cores ≡ map (λ s. s.view) w.cores → slice_get v.cores k ≡ Some s → (r : CoreAt) × (slice_get w.cores k ≡ Some r) × (r.view ≡ s.view)
+view_was w v k s e q = map_some (λ (s : CoreAt). s.view) (slice_get w.cores k) s.view
+    (sym (slice_get-map (λ (s : CoreAt). s.view) w.cores k) ∙ ap (λ (vs : List View). slice_get vs k) (sym e) ∙ slice_get-map (λ (s : CoreAt). s.view) v.cores k ∙ ap (option_map (λ (s : CoreAt). s.view)) q)
+
+idle_kept : (w v : World) (k : ℕ) (s r : CoreAt) → Same w.fabric v.fabric → slice_get v.cores k ≡ Some s → slice_get w.cores k ≡ Some r → r.view ≡ s.view → idle_at v k ≡ idle_at w k
+idle_kept w v k s r same q p e =
+    ap (idle_here v.fabric k) q ∙ ap (idle_view s.view) (shown_same w.fabric v.fabric k same) ∙ ap (λ x. idle_view x (shown w.fabric k)) (sym e) ∙ sym (ap (idle_here w.fabric k) p)
+
+still_kept : (w v : World) → Still w → Unmoved w v → Still v
+still_kept w v h u = record {
+  cores = λ k s q.
+      let r = view_was w v k s u.views q in
+      ap is_some (idle_kept w v k s r.0 u.same q r.1 r.2) ∙ h.cores k r.0 r.1;
+  links = λ link. move_same w.fabric v.fabric link u.same ∙ h.links link;
+  breaks = ap (λ (f : Fabric). f.left) u.same ∙ h.breaks;
+}
+
+same_part : {X : Type 0} (part : CoreAt → X) (w v : World) (core : ℕ) (h : TickStep core w v) → part h.is ≡ part h.was → map part v.cores ≡ map part w.cores
+same_part part w v core h e =
+    ap (map part) h.cores ∙ map-set part w.cores core h.is ∙ ap (slice_set (map part w.cores) core) e
+    ∙ set_itself (map part w.cores) core (part h.was) (slice_get-map part w.cores core ∙ ap (option_map part) h.there)
+
+same_unmoved : (w v : World) → v.fabric ≡ w.fabric → map (λ s. s.view) v.cores ≡ map (λ s. s.view) w.cores → map (λ s. s.acts) v.cores ≡ map (λ s. s.acts) w.cores → Unmoved w v
+same_unmoved w v f e a = record { same = same_fabric w.fabric v.fabric f; views = e; acts = a; added = []; journal = ap (λ (g : Fabric). g.journal) f ∙ sym (append-nil _); notes = tt }
+
+wait_unmoved : (w v : World) (core act : ℕ) (on : WaitOn) (kept : Bool) → v.fabric ≡ cond kept w.fabric (entered core act (Wait on) w.fabric) → map (λ s. s.view) v.cores ≡ map (λ s. s.view) w.cores → map (λ s. s.acts) v.cores ≡ map (λ s. s.acts) w.cores → Unmoved w v
+wait_unmoved w v core act on true f e a = same_unmoved w v f e a
+wait_unmoved w v core act on false f e a = record {
+  same = subst (λ g. Same w.fabric g) (sym f) refl;
+  views = e;
+  acts = a;
+  added = entry_of w.fabric.cycle core act (Wait on) ∷ [];
+  journal = ap (λ (g : Fabric). g.journal) f;
+  notes = (refl, tt);
+}
+
+idle_unmoved : (w v : World) (core : ℕ) (h : TickStep core w v) → IsIdle h.was w.fabric h.is v.fabric → Unmoved w v
+idle_unmoved w v core h i = same_unmoved w v i.fabric (same_part (λ (s : CoreAt). s.view) w v core h (ap (λ (s : CoreAt). s.view) i.state)) (same_part (λ (s : CoreAt). s.acts) w v core h (ap (λ (s : CoreAt). s.acts) i.state))
+
+tick_unmoved : (w v : World) (core : ℕ) (h : TickStep core w v) (d : Due) (why : Idle) → idle_due d ≡ Some why → TickMay core d h.was w.fabric h.is v.fabric → Unmoved w v
+tick_unmoved w v core h (Does deed) why n m = cc
+tick_unmoved w v core h (Waits port full) why n (inl i) =
+    let on : WaitOn = record { port = port; full = full } in
+    wait_unmoved w v core h.was.acts on (is_kept core h.was.acts w.fabric.journal) i.fabric
+    (same_part (λ (s : CoreAt). s.view) w v core h (ap (λ (s : CoreAt). s.view) i.state)) (same_part (λ (s : CoreAt). s.acts) w v core h (ap (λ (s : CoreAt). s.acts) i.state))
+tick_unmoved w v core h (Waits port full) why n (inr i) = same_unmoved w v i.fabric (same_part (λ (s : CoreAt). s.view) w v core h (ap (λ (s : CoreAt). s.view) i.state)) (same_part (λ (s : CoreAt). s.acts) w v core h (ap (λ (s : CoreAt). s.acts) i.state))
+tick_unmoved w v core h Sleeps why n i = idle_unmoved w v core h i
+tick_unmoved w v core h Ends why n i = idle_unmoved w v core h i
+tick_unmoved w v core h (Stops cause) why n i = idle_unmoved w v core h i
+
+no_moves : (f : Fabric) (k : ℕ) → ((link : ℕ) → move_of f link ≡ None) → host_moves f k ≡ f
+no_moves f zero a = refl
+no_moves f (suc k) a = ap (moved k) (no_moves f k a) ∙ ap (λ o. entered_some no_core 0 o f) (a k)
+
+no_breaks_come : (f : Fabric) (left : List EventRow) → f.left ≡ left → left ≡ [] → breaks_come f ≡ f
+no_breaks_come f left e n = rw (e ∙ n) refl
+
+step_unmoved : (w v : World) (e : Event) → IsWired w.fabric → Still w → Step w e v → Unmoved w v
+step_unmoved w v Devices r s h = same_unmoved w v (ap (λ (w : World). w.fabric) h ∙ no_breaks_come w.fabric w.fabric.left refl s.breaks) (ap (λ (w : World). map (λ s. s.view) w.cores) h) (ap (λ (w : World). map (λ s. s.acts) w.cores) h)
+step_unmoved w v Host r s h = same_unmoved w v (ap (λ (w : World). w.fabric) h ∙ no_moves w.fabric (length w.fabric.rows) s.links) (ap (λ (w : World). map (λ s. s.view) w.cores) h) (ap (λ (w : World). map (λ s. s.acts) w.cores) h)
+step_unmoved w v (Tick core) r s h =
+    let i = some_of (idle_at w core) (s.cores core h.was h.there) in
+    tick_unmoved w v core h (due h.was.view (shown w.fabric core)) i.0
+    (idle_lasts h.was.view (shown w.fabric core) i.0 (hoped w.fabric core r) (sym (ap (idle_here w.fabric core) h.there) ∙ i.1)) h.may
+step_unmoved w v Next r s h = subst (Unmoved w) (sym h) (record { same = refl; views = refl; acts = refl; added = []; journal = sym (append-nil _); notes = tt })
+
+-- from a still board, whatever the events
+pub steps_rest : (w v : World) (es : List Event) → IsWired w.fabric → Steps w es v → Still w → Rests w v
+steps_rest w v [] r h s = subst (Rests w) (sym h) (record { views = refl; acts = refl; links = refl; feeds = refl; added = []; journal = sym (append-nil _); notes = tt; still = s })
+steps_rest w v (e ∷ es) wired h s =
+    let u = step_unmoved w h.0 e wired s h.1 in
+    let r = steps_rest h.0 v es (wired_same w.fabric (h.0.fabric) u.same wired) h.2 (still_kept w h.0 s u) in
+    record {
+      views = r.views ∙ u.views;
+      acts = r.acts ∙ u.acts;
+      links = r.links ∙ ap (λ (f : Fabric). f.links) u.same;
+      feeds = r.feeds ∙ ap (λ (f : Fabric). f.feeds) u.same;
+      added = u.added ++ r.added;
+      journal = r.journal ∙ ap (λ j. j ++ r.added) u.journal ∙ append_assoc w.fabric.journal u.added r.added;
+      notes = all_append (λ (e : Entry). is_note e.what ≡ true) u.added r.added u.notes r.notes;
+      still = r.still;
+    }
+
+-- the test of the board is the definition of being still
+
+false_right : (b : Bool) → b && false ≡ false
+false_right true = refl
+false_right false = refl
+
+move_past : (f : Fabric) (k : ℕ) → length f.rows ≤ k → move_of f k ≡ None
+move_past f k l = ap (λ o. move_by f k (part_at o)) (slice_get_past f.rows k l)
+
+quiet_last : (f : Fabric) (n k : ℕ) → ((j : ℕ) → j < n → move_of f j ≡ None) → is_none (move_of f n) ≡ true → (k ≡ n) ⊎ (k < n) → move_of f k ≡ None
+quiet_last f n k before e (inr q) = before k q
+quiet_last f n k before e (inl q) = ap (move_of f) q ∙ none_is _ e
+
+pub quiet_at : (f : Fabric) (n k : ℕ) → is_quiet_to f n ≡ true → k < n → move_of f k ≡ None
+quiet_at f zero k e l = absurd (omega (arith, l))
+quiet_at f (suc n) k e l = quiet_last f n k (λ j q. quiet_at f n j (and_left _ _ e) q) (and_right (is_quiet_to f n) _ e) (last_or_before k n l)
+
+pub quiet_if : (f : Fabric) (n : ℕ) → ((k : ℕ) → move_of f k ≡ None) → is_quiet_to f n ≡ true
+quiet_if f zero a = refl
+quiet_if f (suc n) a = rw (quiet_if f n a, a n) refl
+
+-- a link at which an item can move
+pub loud_at : (f : Fabric) (n k : ℕ) → k < n → is_none (move_of f k) ≡ false → is_quiet_to f n ≡ false
+loud_at f zero k l e = absurd (omega (arith, l))
+loud_at f (suc n) k l e = elim (last_or_before k n l) [
+  | inl q ↦ ap (λ b. is_quiet_to f n && b) (ap (λ k. is_none (move_of f k)) (sym q) ∙ e) ∙ false_right (is_quiet_to f n)
+  | inr q ↦ ap (λ b. b && is_none (move_of f n)) (loud_at f n k q e)
+]
+
+and_idle_inv : (o : Option Idle) (p : Option Rest) (r : Rest) → option_and_then (and_idle o) p ≡ Some r → (is_some o ≡ true) × (is_some p ≡ true)
+and_idle_inv None None r e = cc
+and_idle_inv None (Some q) r e = cc
+and_idle_inv (Some i) None r e = cc
+and_idle_inv (Some i) (Some q) r e = (refl, refl)
+
+pub rest_at : (w : World) (n k : ℕ) → is_some (rest_to w n) ≡ true → k < n → is_some (idle_at w k) ≡ true
+rest_at w zero k e l = absurd (omega (arith, l))
+rest_at w (suc n) k e l =
+    let r = some_of (rest_to w (suc n)) e in
+    let i = and_idle_inv (idle_at w n) (rest_to w n) r.0 r.1 in
+    elim (last_or_before k n l) [
+      | inl q ↦ subst (λ k. is_some (idle_at w k) ≡ true) (sym q) i.0
+      | inr q ↦ rest_at w n k i.1 q
+    ]
+
+pub rest_if : (w : World) (n : ℕ) → ((k : ℕ) → k < n → is_some (idle_at w k) ≡ true) → is_some (rest_to w n) ≡ true
+rest_if w zero h = refl
+rest_if w (suc n) h =
+    let i = some_of (idle_at w n) (h n (omega arith)) in
+    let r = some_of (rest_to w n) (rest_if w n (λ k l. h k (omega (arith, l)))) in
+    rw (i.1, r.1) refl
+
+none_left : (left : List EventRow) → length left == 0 ≡ true → left ≡ []
+none_left [] e = refl
+none_left (x ∷ xs) e = absurd (grind (arith, nat_tests, e))
+
+still_by : (w : World) (q : Bool) → is_quiet_to w.fabric (length w.fabric.rows) && length w.fabric.left == 0 ≡ q → is_some (cond q (rest_to w (length w.cores)) None) ≡ true → Still w
+still_by w false e h = cc
+still_by w true e h = record {
+  cores = λ k s q. rest_at w (length w.cores) k h (slice_get_within w.cores k s q);
+  links = λ k. elim (inside_or_past k (length w.fabric.rows)) [
+    | inl l ↦ quiet_at w.fabric (length w.fabric.rows) k (and_left _ _ e) l
+    | inr l ↦ move_past w.fabric k l
+  ];
+  breaks = none_left w.fabric.left (and_right (is_quiet_to w.fabric (length w.fabric.rows)) _ e);
+}
+
+pub still_from_rest : (w : World) → is_some (rest_of w) ≡ true → Still w
+still_from_rest w h = still_by w (is_quiet_to w.fabric (length w.fabric.rows) && length w.fabric.left == 0) refl h
+
+nothing_left : (left : List EventRow) → left ≡ [] → length left == 0 ≡ true
+nothing_left left e = rw e refl
+
+both_true : (a b : Bool) → a ≡ true → b ≡ true → a && b ≡ true
+both_true a b e f = rw (e, f) refl
+
+pub rest_from_still : (w : World) → Still w → is_some (rest_of w) ≡ true
+rest_from_still w s =
+    let q = both_true _ _ (quiet_if w.fabric (length w.fabric.rows) s.links) (nothing_left w.fabric.left s.breaks) in
+    let r = rest_if w (length w.cores) (λ k l. let c = slice_get_in w.cores k l in s.cores k c.0 c.1) in
+    ap (λ b. is_some (cond b (rest_to w (length w.cores)) None)) q ∙ r
+
+pub still_rest : (w : World) → IsSome (rest_of w) ↔ Still w
+still_rest w = (still_from_rest w, rest_from_still w)
+
+none_unless : {X : Type 0} (o : Option X) → (is_some o ≡ true → ⊥) → o ≡ None
+none_unless None h = refl
+none_unless (Some x) h = absurd (h refl)
+
+rest_none : (w : World) (q : Bool) (k : ℕ) → k < length w.cores → idle_at w k ≡ None → cond q (rest_to w (length w.cores)) None ≡ None
+rest_none w false k l e = refl
+rest_none w true k l e = none_unless (rest_to w (length w.cores)) (λ h. let i = rest_at w (length w.cores) k h l in let z : is_some {T = Idle} None ≡ true = subst (λ (o : Option Idle). is_some o ≡ true) e i in cc)
+
+-- a core that is not idle
+pub busy_at : (w : World) (k : ℕ) → k < length w.cores → idle_at w k ≡ None → rest_of w ≡ None
+busy_at w k l e = rest_none w (is_quiet_to w.fabric (length w.fabric.rows) && length w.fabric.left == 0) k l e
+
+spent_or_full : (spent full : Bool) (r : Rest) → cond spent (Some CyclesSpent) (cond full (Some JournalFull) None) ≡ Some (AtRest r) → is_some {T = Rest} None ≡ true
+spent_or_full true full r e = cc
+spent_or_full false true r e = cc
+spent_or_full false false r e = cc
+
+at_rest_is : (limit : ℕ) (w : World) (o : Option Rest) (r : Rest) → end_of limit w o ≡ Some (AtRest r) → is_some o ≡ true
+at_rest_is limit w (Some q) r e = refl
+at_rest_is limit w None r e = spent_or_full (w.fabric.cycle == limit) (nat_lt w.fabric.spare (need w)) r e
+
+-- a run that ends at rest ends still
+pub ends_still : (limit : ℕ) (w : World) (r : Rest) → end_at limit w ≡ Some (AtRest r) → Still w
+ends_still limit w r e = still_from_rest w (at_rest_is limit w (rest_of w) r e)
+
+-- one core more
+pub rest_more : (w : World) (k : ℕ) (r : Rest) (i : Idle) → rest_to w k ≡ Some r → idle_at w k ≡ Some i → rest_to w (k + 1) ≡ Some (joined r i)
+rest_more w k r i e h =
+    let one : suc k ≡ k + 1 = omega arith in
+    let all : rest_to w (suc k) ≡ Some (joined r i) = rw (e, h) refl in
+    subst (λ n. rest_to w n ≡ Some (joined r i)) one all

@@ -1,0 +1,9 @@
+pub mod Parts
+pub mod Origins
+pub mod Numbers
+pub mod Ends
+pub mod Names
+pub mod Lone
+pub mod Files
+pub mod Distinct
+pub mod Soundness

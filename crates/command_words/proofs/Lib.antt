@@ -1,0 +1,14 @@
+pub mod Commands
+pub mod Digits
+pub mod Filled
+pub mod Law
+pub mod Looks
+pub mod Meanings
+pub mod RawTable
+pub mod Rows
+pub mod RunTable
+pub mod Simples
+pub mod Sounds
+pub mod Taken
+pub mod Turns
+pub mod Walks

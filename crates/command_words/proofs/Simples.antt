@@ -1,0 +1,21 @@
+-- The commands are such that clap tells exactly what their words come to.
+use Rattle.std.proofs.Common.{◌≡◌, true, refl}
+use Rattle.clap.specs.Words.{is_simple, is_simple_and_free}
+use Rattle.clap.proofs.OnLiterals.{clap_on_literals}
+use Rattle.command_words.specs.Splits.{raw_app, run_app}
+
+pub raw_is_simple : is_simple raw_app ≡ true
+unfolding raw_app clap_on_literals
+raw_is_simple = refl
+
+pub raw_is_free : is_simple_and_free raw_app ≡ true
+unfolding raw_app clap_on_literals
+raw_is_free = refl
+
+pub run_is_simple : is_simple run_app ≡ true
+unfolding run_app clap_on_literals
+run_is_simple = refl
+
+pub run_is_free : is_simple_and_free run_app ≡ true
+unfolding run_app clap_on_literals
+run_is_free = refl

@@ -1,0 +1,156 @@
+-- The commands mean nothing where a word is too many, an option stands twice, or a text begins with `-`.
+use Rattle.std.proofs.Common.{◌≡◌, ℕ, ◌<◌, ◌≤◌, ◌&&◌, ◌||◌, ◌++◌, Bool, true, false, codes, refl, sym, ap, subst, arith, length, List, [], ◌∷◌, Option, Some, None, if◌then◌else◌, nat_le, option_map}
+use Rattle.std.proofs.lemmas.Bool.{false≢true}
+use Rattle.std.specs.Str.{bytes_eq}
+use Rattle.command_words.specs.Words.{Text, at_most_once, decimal_value, file_in, is_one_of, number_in, raw_form, raw_of, raw_with, run_form, run_of, run_with, most_cycles, most_entries}
+use Rattle.command_words.proofs.Filled.{text_is}
+use Rattle.command_words.proofs.Meanings.{IsSound}
+
+-- ---- texts that begin with `-`
+
+no_digit : (a b d : Bool) → (((a && b) && false) && d) ≡ false
+no_digit true true d = refl
+no_digit true false d = refl
+no_digit false b d = refl
+
+number_dash : (limit : ℕ) (rest : Text) → number_in limit (45 ∷ rest) ≡ None
+unfolding number_in
+number_dash limit rest =
+    ap (λ b. if b then Some (decimal_value (45 ∷ rest)) else None)
+    (no_digit (nat_le 1 (length (45 ∷ rest))) (nat_le (length (45 ∷ rest)) 19) (nat_le (decimal_value (45 ∷ rest)) limit))
+
+file_dash : (rest : Text) → file_in (45 ∷ rest) ≡ None
+unfolding file_in
+file_dash rest = refl
+
+-- ---- `raw`
+
+raw_none : (file : Option Text) → raw_of file None ≡ None
+raw_none None = refl
+raw_none (Some file) = refl
+
+raw_many : (xs : List Text) → 2 < length xs → raw_with xs ≡ None
+raw_many [] long = refl
+raw_many (a ∷ []) long = refl
+raw_many (a ∷ b ∷ []) long = absurd (omega arith)
+raw_many (a ∷ b ∷ c ∷ xs) long = refl
+
+raw_dash : (front : List Text) (rest : Text) (back : List Text) → raw_with (front ++ (45 ∷ rest) ∷ back) ≡ None
+raw_dash [] rest [] = refl
+raw_dash [] rest (b ∷ []) = rw (file_dash rest) refl
+raw_dash [] rest (b ∷ c ∷ back) = refl
+raw_dash (a ∷ []) rest [] = rw (number_dash most_cycles rest) (raw_none (file_in a))
+raw_dash (a ∷ []) rest (b ∷ back) = refl
+raw_dash (a ∷ b ∷ []) rest back = refl
+raw_dash (a ∷ b ∷ c ∷ front) rest back = refl
+
+pub raw_sound : IsSound raw_form (codes "FILE" ∷ codes "CYCLES" ∷ [])
+unfolding raw_form
+raw_sound = record {
+  distinct = (refl, (refl, tt));
+  apart = λ n is. absurd (false≢true is);
+  same = λ xs f g e. refl;
+  many = λ xs f long. raw_many xs long;
+  twice = λ xs f n is. absurd (false≢true is);
+  place = λ front rest back f. raw_dash front rest back;
+  value = λ xs f n front rest back is. absurd (false≢true is);
+}
+
+-- ---- `run`
+
+-- values that no option may have
+record Bad (vs : List Text) : Type 0 where
+  pub number : (default limit : ℕ) → at_most_once default (number_in limit) vs ≡ None
+  pub file : at_most_once None (λ text. option_map Some (file_in text)) vs ≡ None
+
+twice_none : {X : Type 0} (default : X) (value_of : Text → Option X) (vs : List Text) → 2 ≤ length vs → at_most_once default value_of vs ≡ None
+twice_none default value_of [] long = absurd (omega arith)
+twice_none default value_of (v ∷ []) long = absurd (omega arith)
+twice_none default value_of (v ∷ w ∷ vs) long = refl
+
+bad_twice : (vs : List Text) → 2 ≤ length vs → Bad vs
+bad_twice vs long = record { number = λ default limit. twice_none default (number_in limit) vs long; file = twice_none None (λ text. option_map Some (file_in text)) vs long }
+
+dash_none : {X : Type 0} (default : X) (value_of : Text → Option X) (front : List Text) (v : Text) (back : List Text) → value_of v ≡ None → at_most_once default value_of (front ++ v ∷ back) ≡ None
+dash_none default value_of [] v [] e = e
+dash_none default value_of [] v (b ∷ back) e = refl
+dash_none default value_of (a ∷ []) v back e = refl
+dash_none default value_of (a ∷ b ∷ front) v back e = refl
+
+bad_dash : (front : List Text) (rest : Text) (back : List Text) → Bad (front ++ (45 ∷ rest) ∷ back)
+bad_dash front rest back = record {
+  number = λ default limit. dash_none default (number_in limit) front (45 ∷ rest) back (number_dash limit rest);
+  file = dash_none None (λ text. option_map Some (file_in text)) front (45 ∷ rest) back (ap (option_map Some) (file_dash rest));
+}
+
+no_cycles : (b : Option Text) (j : Option ℕ) (w : Option (Option Text)) → run_of b None j w ≡ None
+no_cycles None j w = refl
+no_cycles (Some b) j w = refl
+
+no_journal : (b : Option Text) (c : Option ℕ) (w : Option (Option Text)) → run_of b c None w ≡ None
+no_journal None c w = refl
+no_journal (Some b) None w = refl
+no_journal (Some b) (Some c) w = refl
+
+no_file : (b : Option Text) (c j : Option ℕ) → run_of b c j None ≡ None
+no_file None c j = refl
+no_file (Some b) None j = refl
+no_file (Some b) (Some c) None = refl
+no_file (Some b) (Some c) (Some j) = refl
+
+cycles_none : (xs c j w : List Text) → Bad c → run_with xs c j w ≡ None
+cycles_none [] c j w bad = refl
+cycles_none (b ∷ []) c j w bad = rw (bad.number 10_000_000 most_cycles) (no_cycles (file_in b) _ _)
+cycles_none (a ∷ b ∷ xs) c j w bad = refl
+
+journal_none : (xs c j w : List Text) → Bad j → run_with xs c j w ≡ None
+journal_none [] c j w bad = refl
+journal_none (b ∷ []) c j w bad = rw (bad.number 1_048_576 most_entries) (no_journal (file_in b) _ _)
+journal_none (a ∷ b ∷ xs) c j w bad = refl
+
+write_none : (xs c j w : List Text) → Bad w → run_with xs c j w ≡ None
+write_none [] c j w bad = refl
+write_none (b ∷ []) c j w bad = rw bad.file (no_file (file_in b) _ _)
+write_none (a ∷ b ∷ xs) c j w bad = refl
+
+-- what holds of each option
+each_option : (P : Text → Type 0) → P (codes "cycles") → P (codes "journal") → P (codes "write-journal") → (n : Text) (a b c : Bool)
+    → bytes_eq (codes "cycles") n ≡ a → bytes_eq (codes "journal") n ≡ b → bytes_eq (codes "write-journal") n ≡ c → (a || (b || (c || false))) ≡ true → P n
+each_option P p q r n true b c is _ _ h = subst P (text_is (codes "cycles") n is) p
+each_option P p q r n false true c _ is _ h = subst P (text_is (codes "journal") n is) q
+each_option P p q r n false false true _ _ is h = subst P (text_is (codes "write-journal") n is) r
+each_option P p q r n false false false _ _ _ h = absurd (false≢true h)
+
+option_is : (P : Text → Type 0) → P (codes "cycles") → P (codes "journal") → P (codes "write-journal") → (n : Text) → is_one_of (codes "cycles" ∷ codes "journal" ∷ codes "write-journal" ∷ []) n ≡ true → P n
+option_is P p q r n h = each_option P p q r n (bytes_eq (codes "cycles") n) (bytes_eq (codes "journal") n) (bytes_eq (codes "write-journal") n) refl refl refl h
+
+run_many : (xs c j w : List Text) → 1 < length xs → run_with xs c j w ≡ None
+run_many [] c j w long = refl
+run_many (b ∷ []) c j w long = absurd (omega arith)
+run_many (a ∷ b ∷ xs) c j w long = refl
+
+run_dash : (front : List Text) (rest : Text) (back c j w : List Text) → run_with (front ++ (45 ∷ rest) ∷ back) c j w ≡ None
+run_dash [] rest [] c j w = rw (file_dash rest) refl
+run_dash [] rest (b ∷ back) c j w = refl
+run_dash (a ∷ []) rest back c j w = refl
+run_dash (a ∷ b ∷ front) rest back c j w = refl
+
+run_bad : (xs : List Text) (f : Text → List Text) (n : Text) → is_one_of (codes "cycles" ∷ codes "journal" ∷ codes "write-journal" ∷ []) n ≡ true → Bad (f n)
+    → run_with xs (f (codes "cycles")) (f (codes "journal")) (f (codes "write-journal")) ≡ None
+run_bad xs f n is =
+    option_is (λ m. Bad (f m) → run_with xs (f (codes "cycles")) (f (codes "journal")) (f (codes "write-journal")) ≡ None) (cycles_none xs _ _ _) (journal_none xs _ _ _) (write_none xs _ _ _) n is
+
+three : (xs : List Text) (a b c d e f : List Text) → a ≡ d → b ≡ e → c ≡ f → run_with xs a b c ≡ run_with xs d e f
+three xs a b c d e f p q r = rw (p, q, r) refl
+
+pub run_sound : IsSound run_form (codes "BOARD" ∷ [])
+unfolding run_form
+run_sound = record {
+  distinct = (refl, tt);
+  apart = option_is (λ n. is_one_of (codes "BOARD" ∷ []) n ≡ false) refl refl refl;
+  same = λ xs f g e. three xs _ _ _ _ _ _ (e (codes "cycles") refl) (e (codes "journal") refl) (e (codes "write-journal") refl);
+  many = λ xs f long. run_many xs _ _ _ long;
+  twice = λ xs f n is long. run_bad xs f n is (bad_twice (f n) long);
+  place = λ front rest back f. run_dash front rest back _ _ _;
+  value = λ xs f n front rest back is e. run_bad xs f n is (subst Bad (sym e) (bad_dash front rest back));
+}

@@ -1,0 +1,46 @@
+-- The commands as clap sees them. These words stay closed: opened, each goal that has one is some thousand symbols long.
+use Rattle.std.specs.Prelude.{◌≡◌, codes, [], List, Option, Some, option_map, true}
+use Rattle.clap.specs.Walk.{Rule, first_of}
+use Rattle.clap.specs.Simple.{App, matches_of, new_app, new_rule, on_top, with_rule}
+use Rattle.clap.specs.Kinds.{Kinds}
+use Rattle.clap.specs.Faults.{fault_of}
+use Rattle.command_words.specs.Words.{Text}
+use Rattle.command_words.specs.declared.split.RawWords.{RawWords}
+use Rattle.command_words.specs.declared.split.RunWords.{RunWords}
+
+-- an option that takes one value
+abbrev pub option : Text → Rule
+option name = record (new_rule name) { long = Some name }
+
+abbrev pub without_help : App → App
+without_help app = on_top (λ s. record s { disable_help_flag = true }) app
+
+unfoldable pub raw_app : App
+raw_app = with_rule (with_rule (without_help (new_app (codes "raw"))) (new_rule (codes "FILE"))) (new_rule (codes "CYCLES"))
+
+unfoldable pub run_app : App
+run_app =
+    with_rule (with_rule (with_rule (with_rule (without_help (new_app (codes "run"))) (new_rule (codes "BOARD"))) (option (codes "cycles")))
+    (option (codes "journal"))) (option (codes "write-journal"))
+
+-- the kinds of fault of the words
+unfoldable pub faults : App → List Text → Kinds
+faults app words = fault_of app words
+
+-- what the words give for an argument
+unfoldable pub value_of : App → List Text → Text → Option Text
+value_of app words name = first_of name (matches_of app words)
+
+-- clap takes the words of `raw`, and these are the texts in them
+pub record IsRawSplit (words : List Text) (split : RawWords) : Type 0 where
+  pub taken : faults raw_app words ≡ []
+  pub file : option_map (λ w. w.now) split.file ≡ value_of raw_app words (codes "FILE")
+  pub cycles : option_map (λ w. w.now) split.cycles ≡ value_of raw_app words (codes "CYCLES")
+
+-- the same of `run`
+pub record IsRunSplit (words : List Text) (split : RunWords) : Type 0 where
+  pub taken : faults run_app words ≡ []
+  pub board : option_map (λ w. w.now) split.board ≡ value_of run_app words (codes "BOARD")
+  pub cycles : option_map (λ w. w.now) split.cycles ≡ value_of run_app words (codes "cycles")
+  pub journal : option_map (λ w. w.now) split.journal ≡ value_of run_app words (codes "journal")
+  pub write_journal : option_map (λ w. w.now) split.write_journal ≡ value_of run_app words (codes "write-journal")

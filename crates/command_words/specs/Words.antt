@@ -1,0 +1,173 @@
+-- The grammar of the command line: a command, and then words in their places and options with values.
+use Rattle.std.specs.Prelude.{ℕ, ◌+◌, ◌*◌, ◌-◌, ◌≡◌, ◌∷◌, ◌&&◌, ◌==◌, [], Bool, List, Option, None, Some, true, Result, Ok, Err, codes, drop, fold, if◌then◌else◌, length, map, nat_le, option_map, take}
+use Rattle.std.specs.Char.{is_ascii_digit}
+use Rattle.std.specs.List.{after_first, before_first, flat_map, list_all, list_any}
+use Rattle.std.specs.Str.{bytes_eq}
+use Rattle.host_io.specs.Names.{is_file_name}
+use Rattle.command_words.specs.declared.command.Command.{Command}
+use Rattle.command_words.specs.declared.command.Command.TheVariants.{Raw, Run}
+use Rattle.command_words.specs.declared.command.WordsFault.{WordsFault}
+use Rattle.command_words.specs.declared.command.WordsFault.TheVariants.{NoMemory, Usage}
+
+abbrev pub Text : Type 0
+Text = List ℕ
+
+-- ---- what the words are
+
+-- what stands after the command: a word in its place, or an option with its value
+pub data Part : Type 0 where
+  placed : Text → Part
+  given : Text → Text → Part
+
+-- what a word is, before the options end: `--`, the name of an option with or without a value, another word that
+-- begins with `-`, or a word in its place
+pub data Look : Type 0 where
+  closing : Look
+  naming : Text → Option Text → Look
+  refused : Look
+  standing : Look
+
+abbrev pub begins_with : Text → Text → Bool
+begins_with front word = bytes_eq (take (length front) word) front
+
+abbrev pub is_equals : ℕ → Bool
+is_equals b = b == 61
+
+-- `NAME`, or `NAME=VALUE`
+abbrev pub named : Text → Look
+named text = naming (before_first is_equals text) (if list_any is_equals text then Some (after_first is_equals text) else None)
+
+unfoldable pub look : Text → Look
+look word =
+    if bytes_eq word (codes "--") then closing
+    else if begins_with (codes "--") word then named (drop 2 word)
+    else if begins_with (codes "-") word then refused
+    else standing
+
+abbrev pub with_part : Part → Option (List Part) → Option (List Part)
+with_part part parts = option_map (λ ps. part ∷ ps) parts
+
+-- the part that the word begins, before the parts of the others, which may begin with the value of an option
+abbrev pub at_look : Look → Text → Option (List Part) → (Text → Option (List Part)) → List Part → Option (List Part)
+at_look closing word others waiting all_placed = Some all_placed
+at_look (naming name (Some value)) word others waiting all_placed = with_part (given name value) others
+at_look (naming name None) word others waiting all_placed = waiting name
+at_look refused word others waiting all_placed = None
+at_look standing word others waiting all_placed = with_part (placed word) others
+
+-- The parts that the words are, where an option may wait for its value: the next word, whatever it is. After `--`
+-- each word is in its place.
+unfoldable pub parts : Option Text → List Text → Option (List Part)
+parts None [] = Some []
+parts (Some name) [] = None
+parts None (word ∷ words) = at_look (look word) word (parts None words) (λ name. parts (Some name) words) (map placed words)
+parts (Some name) (word ∷ words) = with_part (given name word) (parts None words)
+
+-- ---- what a command takes
+
+abbrev pub place_in : Part → List Text
+place_in (placed word) = word ∷ []
+place_in (given name value) = []
+
+abbrev pub value_in : Text → Part → List Text
+value_in option (placed word) = []
+value_in option (given name value) = if bytes_eq name option then value ∷ [] else []
+
+-- the words in their places, in order
+abbrev pub places : List Part → List Text
+places ps = flat_map place_in ps
+
+-- the values that an option is given, in order
+abbrev pub values : List Part → Text → List Text
+values ps option = flat_map (value_in option) ps
+
+abbrev pub is_one_of : List Text → Text → Bool
+is_one_of options name = list_any (λ option. bytes_eq option name) options
+
+abbrev pub is_known : List Text → Part → Bool
+is_known options (placed word) = true
+is_known options (given name value) = is_one_of options name
+
+-- a command: its options, and what it means by the words in its places and the values of its options
+pub record Form : Type 0 where
+  pub options : List Text
+  pub meaning : List Text → (Text → List Text) → Option Command
+
+abbrev pub said : Form → Option (List Part) → Option Command
+said form None = None
+said form (Some ps) = if list_all (is_known form.options) ps then form.meaning (places ps) (values ps) else None
+
+-- ---- values
+
+-- the number that decimal digits stand for
+abbrev pub decimal_value : Text → ℕ
+decimal_value = fold (λ n digit. 10 * n + (digit - 48)) 0
+
+-- 1 to 19 digits
+abbrev pub is_number : Text → Bool
+is_number text = nat_le 1 (length text) && nat_le (length text) 19 && list_all is_ascii_digit text
+
+-- a number within its limit
+unfoldable pub number_in : ℕ → Text → Option ℕ
+number_in limit text = if is_number text && nat_le (decimal_value text) limit then Some (decimal_value text) else None
+
+-- the name of a file
+unfoldable pub file_in : Text → Option Text
+file_in text = if is_file_name text then Some text else None
+
+-- an option that stands at most once: what its value is, or what holds without it
+abbrev pub at_most_once : {X : Type 0} → X → (Text → Option X) → List Text → Option X
+at_most_once default value_of [] = Some default
+at_most_once default value_of (text ∷ []) = value_of text
+at_most_once default value_of (text ∷ again ∷ others) = None
+
+-- ---- the commands
+
+abbrev pub most_cycles : ℕ
+most_cycles = 1_000_000_000_000
+
+abbrev pub most_entries : ℕ
+most_entries = 33_554_432
+
+abbrev pub raw_of : Option Text → Option ℕ → Option Command
+raw_of (Some file) (Some cycles) = Some (Raw file cycles)
+raw_of _ _ = None
+
+-- `raw FILE CYCLES`
+abbrev pub raw_with : List Text → Option Command
+raw_with (file ∷ cycles ∷ []) = raw_of (file_in file) (number_in most_cycles cycles)
+raw_with _ = None
+
+abbrev pub run_of : Option Text → Option ℕ → Option ℕ → Option (Option Text) → Option Command
+run_of (Some board) (Some cycles) (Some journal) (Some write_journal) = Some (Run board cycles journal write_journal)
+run_of _ _ _ _ = None
+
+-- `run BOARD [--cycles N] [--journal N] [--write-journal FILE]`
+abbrev pub run_with : List Text → List Text → List Text → List Text → Option Command
+run_with (board ∷ []) cycles journal write_journal =
+    run_of (file_in board) (at_most_once 10_000_000 (number_in most_cycles) cycles) (at_most_once 1_048_576 (number_in most_entries) journal)
+    (at_most_once None (λ text. option_map Some (file_in text)) write_journal)
+run_with _ cycles journal write_journal = None
+
+unfoldable pub raw_form : Form
+raw_form = record { options = []; meaning = λ words values. raw_with words }
+
+unfoldable pub run_form : Form
+run_form = record {
+  options = codes "cycles" ∷ codes "journal" ∷ codes "write-journal" ∷ [];
+  meaning = λ words values. run_with words (values (codes "cycles")) (values (codes "journal")) (values (codes "write-journal"));
+}
+
+-- what the words mean; None where they are no command
+unfoldable pub command_of : List Text → Option Command
+command_of [] = None
+command_of (word ∷ words) =
+    if bytes_eq word (codes "raw") then said raw_form (parts None words)
+    else if bytes_eq word (codes "run") then said run_form (parts None words)
+    else None
+
+-- the answer to words of this meaning
+abbrev pub Answers : Option Command → Result Command WordsFault → Type 0
+Answers meaning (Ok command) = meaning ≡ Some command
+Answers meaning (Err Usage) = meaning ≡ None
+Answers meaning (Err NoMemory) = Unit {0}

@@ -1,0 +1,28 @@
+use host_io::FileName;
+
+/// A command, as the words of the command line mean it.
+#[derive(Debug, Drop)]
+pub enum Command {
+    /// `raw FILE CYCLES`: runs the words of a file for at most so many cycles.
+    Raw {
+        file: FileName,
+        cycles: u64,
+    },
+    /// `run BOARD`: runs a board for at most so many cycles, with room for so many journal entries. The journal goes to
+    /// a file where one is named.
+    Run {
+        board: FileName,
+        cycles: u64,
+        journal: u32,
+        write_journal: Option<FileName>,
+    },
+}
+
+/// Why words give no command.
+#[derive(Clone, Copy, Debug, PartialEq, Eq)]
+pub enum WordsFault {
+    /// The words mean no command.
+    Usage,
+    /// There was no memory to split the words.
+    NoMemory,
+}

@@ -1,0 +1,112 @@
+use super::*;
+use std::test::Fail;
+
+/// What the answer to some words says.
+#[derive(Clone, Copy, Debug, PartialEq, Eq)]
+enum Said<'a> {
+    Raw(&'a str, u64),
+    Run(&'a str, u64, u32, Option<&'a str>),
+    Fault(WordsFault),
+}
+
+fn answered(answer: &Result<Command, WordsFault>) -> Said<'_> {
+    match answer {
+        Ok(Command::Raw { file, cycles }) => Said::Raw(file.as_text(), *cycles),
+        Ok(
+            Command::Run {
+                board,
+                cycles,
+                journal,
+                write_journal: Some(file),
+            },
+        ) => Said::Run(board.as_text(), *cycles, *journal, Some(file.as_text())),
+        Ok(
+            Command::Run {
+                board,
+                cycles,
+                journal,
+                write_journal: None,
+            },
+        ) => Said::Run(board.as_text(), *cycles, *journal, None),
+        Err(fault) => Said::Fault(*fault),
+    }
+}
+
+#[test]
+fn words_mean_commands(rt: HostRuntime) -> Result<(), Fail> {
+    let rows: [(&[&str], Said); 10] = [
+        (&["raw", "image", "007"], Said::Raw("image", 7)),
+        (
+            &["raw", "--", "a/b", "1000000000000"],
+            Said::Raw("a/b", 1_000_000_000_000),
+        ),
+        (&["raw", "x", "0000000000000000001"], Said::Raw("x", 1)),
+        (&["run", "b"], Said::Run("b", 10_000_000, 1_048_576, None)),
+        (
+            &["run", "--", "b"],
+            Said::Run("b", 10_000_000, 1_048_576, None),
+        ),
+        (
+            &["run", "--cycles", "5", "b"],
+            Said::Run("b", 5, 1_048_576, None),
+        ),
+        (
+            &["run", "b", "--journal=0"],
+            Said::Run("b", 10_000_000, 0, None),
+        ),
+        (
+            &["run", "b", "--journal", "33554432"],
+            Said::Run("b", 10_000_000, 33_554_432, None),
+        ),
+        (
+            &["run", "b", "--write-journal", "out"],
+            Said::Run("b", 10_000_000, 1_048_576, Some("out")),
+        ),
+        (
+            &["run", "run", "--cycles=0"],
+            Said::Run("run", 0, 1_048_576, None),
+        ),
+    ];
+    for (words, wanted) in rows {
+        let answer = read_words(rt.alloc(), words);
+        assert_eq!(rt; answered(&answer), wanted, "{words:?}");
+    }
+    Ok(())
+}
+
+#[test]
+fn other_words_are_refused(rt: HostRuntime) -> Result<(), Fail> {
+    let rows: [&[&str]; 22] = [
+        &[],
+        &["asm", "a", "b"],
+        &["--help"],
+        &["--", "run", "b"],
+        &["raw", "x"],
+        &["raw", "x", "-1"],
+        &["raw", "x", "+1"],
+        &["raw", "x", "1", "2"],
+        &["raw", "x", "00000000000000000001"],
+        &["run"],
+        &["run", "-"],
+        &["run", "--help"],
+        &["run", "b", "c"],
+        &["run", "b", "--", "--cycles"],
+        &["run", "b", "--cycles"],
+        &["run", "b", "--cycles="],
+        &["run", "b", "--cycles", "--"],
+        &["run", "b", "--cycle=5"],
+        &["run", "b", "--cycles=5", "--cycles", "5"],
+        &["run", "b", "--cycles", "1000000000001"],
+        &["run", "b", "--journal", "33554433"],
+        &["run", "b", "--write-journal=-x"],
+    ];
+    for words in rows {
+        let answer = read_words(rt.alloc(), words);
+        assert_eq!(rt;
+            answered(&answer),
+            Said::Fault(WordsFault::Usage),
+            "{words:?}"
+        );
+    }
+    Ok(())
+}

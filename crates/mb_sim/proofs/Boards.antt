@@ -1,0 +1,192 @@
+-- From what the parts of a run of a board say to what its status says.
+use Rattle.std.proofs.lemmas.Option.{same_Some}
+use Rattle.std.proofs.Common.{◌≡◌, ◌⊎◌, inl, inr, zero, suc, ℕ, ◌≤◌, ◌<◌, List, [], ◌∷◌, ◌++◌, length, map, Option, Some, None, Result, Ok, Err, Bool, true, false, refl, sym, ap, subst, ◌∙◌, arith, slice_get}
+use Rattle.std.specs.Prelude.{⊤, ◌||◌, codes}
+use Rattle.std.specs.List.{list_any}
+use Rattle.std.specs.Str.{bytes_eq}
+use Rattle.isa_step.specs.Deeds.{View}
+use Rattle.host_io.specs.Outside.{Adds, Files, ShelfState, SinkState}
+use Rattle.host_io.specs.declared.faults.StoreFault.{StoreFault}
+use Rattle.run_journal.specs.declared.entry.Entry.{Entry}
+use Rattle.board_file.specs.declared.board.BoardFile.{BoardFile}
+use Rattle.board_machine.specs.declared.events.RunEnd.{RunEnd}
+use Rattle.board_machine.specs.declared.events.Event.{Event}
+use Rattle.board_machine.specs.Cycles.{RunsTo}
+use Rattle.board_machine.specs.World.{CoreAt, Reached, Start, Steps, World}
+use Rattle.board_machine.specs.Runs.{KeepsRuns}
+use Rattle.board_machine.proofs.Steps.{step_kept}
+use Rattle.host_io.specs.Outside.{CountsWriteFault}
+use Rattle.host_io.specs.declared.faults.StoreFault.TheVariants as store
+use Rattle.board_file.specs.declared.board.CoreRow.{CoreRow}
+use Rattle.board_file.specs.declared.board.End.TheVariants.{File}
+use Rattle.board_file.specs.declared.board.LinkRow.{LinkRow}
+use Rattle.board_file.specs.declared.board.UartRow.{UartRow}
+use Rattle.board_machine.specs.declared.events.Rest.TheVariants as rest
+use Rattle.board_machine.specs.declared.events.RunEnd.TheVariants as end
+use Rattle.board_sound.proofs.Distinct.{no_output}
+use Rattle.board_sound.proofs.Soundness.{read_is_sound}
+use Rattle.board_load.specs.Jobs.{IsJobOf}
+use Rattle.board_load.specs.Unbuilt.{core_names, end_names, input_names, link_names, names_file, names_journal, uart_names}
+use Rattle.board_sound.specs.Sound.{output_files}
+use Rattle.host_io.specs.declared.faults.ShelfFaults.{ShelfFaults}
+use Rattle.command_words.proofs.Filled.{same_text}
+use Rattle.output_names.specs.Apart.{IsNoOutput}
+use Rattle.output_names.proofs.Apart.{outputs_apart}
+use Rattle.run_output.proofs.InOrder.{tells}
+use Rattle.run_output.specs.Stored.{Wrote}
+use Rattle.run_output.specs.declared.outputs.OutputFault.TheVariants as output
+use Rattle.run_output.specs.Outputs.{AreApart, Output, WroteAll, WroteOutputs, outputs_of}
+use Rattle.run_output.specs.Report.{report_text}
+use Rattle.run_output.specs.declared.outputs.OutputFault.{OutputFault}
+use Rattle.mb_sim.specs.declared.status.Status.{Status}
+use Rattle.mb_sim.specs.declared.run.RunWords.{RunWords}
+use Rattle.mb_sim.specs.Board.{HasRun, Names, Plays, Prints, Puts, PutsOut, Says, all_out, all_written, ends_of, file_refused, file_stops, printed, report_of, report_refused, report_stops, status_of_sink, stopped, store_of}
+use Rattle.mb_sim.specs.Top.{CountsLoads, CountsWrites}
+use Rattle.mb_sim.specs.Runs.{IsRunOf, code_of, status_of}
+
+pub report_is : (board : BoardFile) (last : World) (how : RunEnd) (entries : List Entry) (code cycles : ℕ) → entries ≡ last.fabric.journal → code ≡ code_of (status_of how) → cycles ≡ last.fabric.cycle
+    → report_text board (ends_of last) entries code cycles ≡ report_of board last how
+report_is board last how entries code cycles e c n =
+    ap (λ es. report_text board (ends_of last) es code cycles) e ∙ ap (λ c. report_text board (ends_of last) last.fabric.journal c cycles) c ∙ ap (report_text board (ends_of last) last.fabric.journal (code_of (status_of how))) n
+
+pub outputs_are : (board : BoardFile) (last : World) (entries : List Entry) (journal : Option (List ℕ)) (shelf shelf' : ShelfState) (result : Result ⊤ OutputFault) → entries ≡ last.fabric.journal
+    → WroteOutputs shelf shelf' (outputs_of board entries journal) result → WroteOutputs shelf shelf' (outputs_of board last.fabric.journal journal) result
+outputs_are board last entries journal shelf shelf' result e w = let P : List Entry → Type 0 = λ es. WroteOutputs shelf shelf' (outputs_of board es journal) result in subst P e w
+
+-- the files, and then the report
+pub prints_out : (journal : Option (List ℕ)) (board : BoardFile) (last : World) (how : RunEnd) (shelf shelf' : ShelfState) (out out' : SinkState) (status : Status)
+    → WroteOutputs shelf shelf' (outputs_of board last.fabric.journal journal) (Ok tt) → Prints board last how out out' status → PutsOut journal board last how shelf shelf' out out' status
+prints_out journal board last how shelf shelf' out out' status w (printed a) = all_out w a
+prints_out journal board last how shelf shelf' out out' status w (stopped fault a) = report_stops fault w a
+
+-- a run from a board's beginning tells each core's view
+pub run_of : (b : BoardFile) (views : List View) (inputs : List (List ℕ)) (entries limit : ℕ) (first last : World) (how : RunEnd) → Start b views inputs first → first.fabric.spare ≡ entries
+    → RunsTo limit first last how → KeepsRuns first last → IsRunOf b views inputs entries limit last how
+run_of b views inputs entries limit first last how began room ran keeps = record {
+  first = first;
+  began = began;
+  room = room;
+  ran = ran;
+  told = (keeps b views inputs (record { first = first; events = []; began = began; ran = refl })).told;
+}
+
+-- a run keeps the number of cores
+steps_cores : (w v : World) (es : List Event) → Steps w es v → length v.cores ≡ length w.cores
+steps_cores w v [] h = ap (λ (x : World). length x.cores) h
+steps_cores w v (e ∷ es) h = steps_cores h.0 v es h.2 ∙ (step_kept w h.0 e h.1).cores
+
+pub run_cores : (limit : ℕ) (first last : World) (how : RunEnd) → RunsTo limit first last how → length last.cores ≡ length first.cores
+run_cores limit first last how r = steps_cores first last _ r.cycles
+
+-- the journal's file is no output of the board
+
+or_right : (a b : Bool) → b ≡ true → a || b ≡ true
+or_right true b e = refl
+or_right false b e = e
+
+or_left : (a b : Bool) → a ≡ true → a || b ≡ true
+or_left a b e = rw e refl
+
+none_true : (a b c : Bool) → a || b || c ≡ false → (b ≡ true) ⊎ (c ≡ true) → ⊥
+none_true true b c h e = cc
+none_true false true c h e = cc
+none_true false false true h e = cc
+none_true false false false h (inl e) = cc
+none_true false false false h (inr e) = cc
+
+any_at : {X : Type 0} (p : X → Bool) (xs : List X) (k : ℕ) (x : X) → slice_get xs k ≡ Some x → p x ≡ true → list_any p xs ≡ true
+any_at p [] k x e h = cc
+any_at p (y ∷ ys) zero x e h = let same : y ≡ x = same_Some _ _ e in rw (same, h) refl
+any_at p (y ∷ ys) (suc k) x e h = or_right (p y) (list_any p ys) (any_at p ys k x e h)
+
+no_journal_output : (board : BoardFile) (name : List ℕ) → names_file board name ≡ false → (k : ℕ) → slice_get (output_files board) k ≡ Some name → ⊥
+unfolding names_file
+no_journal_output board name h k e = no_output board.links board.uarts name
+    (λ j link at to. none_true (list_any (core_names name) board.cores) (list_any (link_names name) board.links) (list_any (uart_names name) board.uarts) h
+    (inl (any_at (link_names name) board.links j link at (or_right (end_names name link.from) (end_names name link.to) (ap (end_names name) to ∙ same_text name)))))
+    (λ j uart at to. none_true (list_any (core_names name) board.cores) (list_any (link_names name) board.links) (list_any (uart_names name) board.uarts) h
+    (inr (any_at (uart_names name) board.uarts j uart at (or_left (bytes_eq uart.output name) (input_names name uart.input) (ap (λ f. bytes_eq f name) to ∙ same_text name)))))
+    k e
+
+is_no_output : (board : BoardFile) (journal : Option (List ℕ)) → names_journal board journal ≡ false → IsNoOutput board journal
+is_no_output board None h name e k = cc
+is_no_output board (Some file) h name e k = no_journal_output board name (ap (names_file board) (sym (same_Some _ _ e)) ∙ h) k
+
+-- so the outputs of a run have different names
+pub apart : (files : Option Files) (file : List ℕ) (journal : Option (List ℕ)) (board : BoardFile) (views : List View) (inputs : List (List ℕ)) (entries : List Entry)
+    → IsJobOf files file journal board views inputs → AreApart (outputs_of board entries journal)
+apart files file journal board views inputs entries job =
+    outputs_apart board entries journal (read_is_sound job.passes.is_board.0 board job.passes.is_board.2) (is_no_output board journal job.passes.spares)
+
+-- what was written
+
+put_out_to : (words : RunWords) (board : BoardFile) (last : World) (shelf shelf' : ShelfState) (result : Result ⊤ StoreFault) → AreApart (outputs_of board last.fabric.journal words.journal)
+    → WroteAll shelf shelf' (outputs_of board last.fabric.journal words.journal) result → Puts words board last shelf shelf' result
+put_out_to words board last shelf shelf' result a w = record { in_order = w; places = tells shelf shelf' (outputs_of board last.fabric.journal words.journal) result a w }
+
+says_puts : (words : RunWords) (shelf shelf' : ShelfState) (out out' : SinkState) (status : Status) (board : BoardFile) (last : World) (how : RunEnd) → HasRun words shelf.files board last how
+    → AreApart (outputs_of board last.fabric.journal words.journal) → PutsOut words.journal board last how shelf shelf' out out' status → Says words shelf shelf' out out' status
+says_puts words shelf shelf' out out' status board last how has a (all_out w p) = all_written board last how has (put_out_to words board last shelf shelf' (Ok tt) a w) p
+says_puts words shelf shelf' out out' status board last how has a (file_stops (output.Failed file) w e) = file_refused board last how (output.Failed file) has (put_out_to words board last shelf shelf' (Err store.Failed) a w.0) w.1 e
+says_puts words shelf shelf' out out' status board last how has a (file_stops output.NoMemory w e) = file_refused board last how output.NoMemory has (put_out_to words board last shelf shelf' (Err store.NoMemory) a w) tt e
+says_puts words shelf shelf' out out' status board last how has a (report_stops fault w p) = report_refused board last how fault has (put_out_to words board last shelf shelf' (Ok tt) a w) p
+
+pub says_played : (words : RunWords) (shelf mid shelf' : ShelfState) (out out' : SinkState) (status : Status) (board file : BoardFile) (views : List View) (inputs : List (List ℕ)) (first : World)
+    → IsJobOf shelf.files words.file words.journal board views inputs → file ≡ board → Start board views inputs first → first.fabric.spare ≡ words.entries → mid ≡ shelf
+    → Plays words file first mid shelf' out out' status → Says words shelf shelf' out out' status
+says_played words shelf mid shelf' out out' status board file views inputs first job same began room quiet p =
+    let P : BoardFile → Type 0 = λ b. PutsOut words.journal b p.last p.how mid shelf' out out' status in
+    let Q : ShelfState → Type 0 = λ s. PutsOut words.journal board p.last p.how s shelf' out out' status in
+    says_puts words shelf shelf' out out' status board p.last p.how
+    (record { views = views; inputs = inputs; job = job; ran = run_of board views inputs words.entries words.cycles first p.last p.how began room p.ran p.keeps })
+    (apart shelf.files words.file words.journal board views inputs p.last.fabric.journal job) (subst Q quiet (subst P same p.puts))
+
+-- counts of faults
+
+wrote_quiet : (old new : ShelfState) (outputs : List Output) → WroteAll old new outputs (Ok tt) → new.faults ≡ old.faults
+wrote_quiet old new [] h = ap (λ (s : ShelfState). s.faults) h
+wrote_quiet old new (o ∷ os) h = wrote_quiet h.0 new os h.2 ∙ h.1.1
+
+wrote_loads : (old new : ShelfState) (outputs : List Output) (fault : StoreFault) → WroteAll old new outputs (Err fault) → new.faults.load_faults ≡ old.faults.load_faults
+wrote_loads old new [] fault h = absurd h
+wrote_loads old new (o ∷ os) store.Failed (inl h) = h.1.loads
+wrote_loads old new (o ∷ os) store.NoMemory (inl h) = ap (λ (f : ShelfFaults). f.load_faults) h.1
+wrote_loads old new (o ∷ os) fault (inr h) = wrote_loads h.0 new os fault h.2 ∙ ap (λ (f : ShelfFaults). f.load_faults) h.1.1
+
+ended_loads : (how : RunEnd) (before now : ℕ) → now ≡ before → CountsLoads before now (status_of how)
+ended_loads (end.Rest rest.Ended) before now e = e
+ended_loads (end.Rest rest.Waiting) before now e = e
+ended_loads (end.Rest rest.Stopped) before now e = e
+ended_loads end.CyclesSpent before now e = e
+ended_loads end.JournalFull before now e = e
+
+ended_writes : (how : RunEnd) (before now : ℕ) → now ≡ before → CountsWrites before now (status_of how)
+ended_writes (end.Rest rest.Ended) before now e = e
+ended_writes (end.Rest rest.Waiting) before now e = e
+ended_writes (end.Rest rest.Stopped) before now e = e
+ended_writes end.CyclesSpent before now e = e
+ended_writes end.JournalFull before now e = e
+
+pub puts_loads : (journal : Option (List ℕ)) (board : BoardFile) (last : World) (how : RunEnd) (shelf shelf' : ShelfState) (out out' : SinkState) (status : Status) → PutsOut journal board last how shelf shelf' out out' status
+    → CountsLoads shelf.faults.load_faults shelf'.faults.load_faults status
+puts_loads journal board last how shelf shelf' out out' status (all_out w p) = ended_loads how shelf.faults.load_faults shelf'.faults.load_faults (ap (λ (f : ShelfFaults). f.load_faults) (wrote_quiet shelf shelf' _ w))
+puts_loads journal board last how shelf shelf' out out' status (file_stops (output.Failed file) w e) = wrote_loads shelf shelf' _ store.Failed w.0
+puts_loads journal board last how shelf shelf' out out' status (file_stops output.NoMemory w e) = tt
+puts_loads journal board last how shelf shelf' out out' status (report_stops store.Failed w p) = ap (λ (f : ShelfFaults). f.load_faults) (wrote_quiet shelf shelf' _ w)
+puts_loads journal board last how shelf shelf' out out' status (report_stops store.NoMemory w p) = tt
+
+pub puts_writes : (journal : Option (List ℕ)) (board : BoardFile) (last : World) (how : RunEnd) (shelf shelf' : ShelfState) (out out' : SinkState) (status : Status) → PutsOut journal board last how shelf shelf' out out' status
+    → CountsWrites out.faults out'.faults status
+puts_writes journal board last how shelf shelf' out out' status (all_out w p) = ended_writes how out.faults out'.faults p.1
+puts_writes journal board last how shelf shelf' out out' status (file_stops (output.Failed file) w e) = tt
+puts_writes journal board last how shelf shelf' out out' status (file_stops output.NoMemory w e) = tt
+puts_writes journal board last how shelf shelf' out out' status (report_stops store.Failed w p) = tt
+puts_writes journal board last how shelf shelf' out out' status (report_stops store.NoMemory w p) = tt
+
+pub puts_stores : (journal : Option (List ℕ)) (board : BoardFile) (last : World) (how : RunEnd) (shelf shelf' : ShelfState) (out out' : SinkState) (status : Status) → PutsOut journal board last how shelf shelf' out out' status
+    → CountsWrites shelf.faults.write_faults shelf'.faults.write_faults status
+puts_stores journal board last how shelf shelf' out out' status (all_out w p) = ended_writes how shelf.faults.write_faults shelf'.faults.write_faults (ap (λ (f : ShelfFaults). f.write_faults) (wrote_quiet shelf shelf' _ w))
+puts_stores journal board last how shelf shelf' out out' status (file_stops (output.Failed file) w e) = tt
+puts_stores journal board last how shelf shelf' out out' status (file_stops output.NoMemory w e) = tt
+puts_stores journal board last how shelf shelf' out out' status (report_stops store.Failed w p) = tt
+puts_stores journal board last how shelf shelf' out out' status (report_stops store.NoMemory w p) = tt

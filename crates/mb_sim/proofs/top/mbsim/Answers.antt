@@ -1,0 +1,14 @@
+use Rattle.std.proofs.Common.{map}
+use Rattle.command_words.specs.Words.{command_of}
+use Rattle.mb_sim.proofs.Exact.{completes, long_answer}
+use Rattle.mb_sim.proofs.FairRuns.{runs_whole}
+use Rattle.mb_sim.proofs.top.mbsim.Goals as goal
+
+pub returns-clause-complete : goal.returns-clause-complete
+returns-clause-complete g c file image cycles is fair within = completes _ file image cycles _ _ _ _ _ c.obey-status.ensures.says is fair within
+
+pub returns-clause-too_long : goal.returns-clause-too_long
+returns-clause-too_long g c file image cycles is fair past = long_answer _ file image cycles _ _ _ _ _ c.obey-status.ensures.says is fair past
+
+pub returns-clause-complete_run : goal.returns-clause-complete_run
+returns-clause-complete_run g c file cycles entries journal is fair = runs_whole _ file cycles entries journal _ _ _ _ _ c.obey-status.ensures.says is fair

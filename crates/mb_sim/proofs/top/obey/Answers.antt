@@ -1,0 +1,29 @@
+use Rattle.std.proofs.Common.{map, subst, sym, ap, ◌∙◌, Option, Some}
+use Rattle.command_words.specs.declared.command.Command.{Command}
+use Rattle.mb_sim.specs.Top.{Answers}
+use Rattle.mb_sim.proofs.Exact.{nothing_done}
+use Rattle.mb_sim.proofs.Limits.{IsSmall, command_small}
+use Rattle.mb_sim.proofs.top.obey.Goals as goal
+
+pub raw-requires : goal.raw-requires
+raw-requires g c =
+    let small = command_small (map (λ word. word.now) c.args.words.now) c.in-Ok-Raw.field-0 c.in-Ok-Raw.ensures in
+    record { few = (subst IsSmall c.in-Ok-Raw.field-0-is small).cycles }
+
+pub run-requires : goal.run-requires
+run-requires g c =
+    let small = command_small (map (λ word. word.now) c.args.words.now) c.in-Ok-Run.field-0 c.in-Ok-Run.ensures in
+    record { few = (subst IsSmall c.in-Ok-Run.field-0-is small).cycles }
+
+pub returns-in-Ok-Raw-clause-says : goal.returns-in-Ok-Raw-clause-says
+returns-in-Ok-Raw-clause-says g c =
+    let P : Option Command → Type 0 = λ o. Answers o (g.S.Shelf.state c.args.shelf.now) (g.S.Shelf.state c.raw.new.shelf) (g.O.Sink.state c.args.out.now) (g.O.Sink.state c.raw.new.out) c.raw.result in
+    subst P (sym (c.in-Ok-Raw.ensures ∙ ap Some c.in-Ok-Raw.field-0-is)) (record { says = c.raw.ensures.says; files = c.raw.ensures.files })
+
+pub returns-in-Ok-Run-clause-says : goal.returns-in-Ok-Run-clause-says
+returns-in-Ok-Run-clause-says g c =
+    let P : Option Command → Type 0 = λ o. Answers o (g.S.Shelf.state c.args.shelf.now) (g.S.Shelf.state c.run.new.shelf) (g.O.Sink.state c.args.out.now) (g.O.Sink.state c.run.new.out) c.run.result in
+    subst P (sym (c.in-Ok-Run.ensures ∙ ap Some c.in-Ok-Run.field-0-is)) c.run.ensures.says
+
+pub returns-in-Err-NoMemory-clause-says : goal.returns-in-Err-NoMemory-clause-says
+returns-in-Err-NoMemory-clause-says g c = nothing_done _ (g.S.Shelf.state c.args.shelf.now) (g.O.Sink.state c.args.out.now)

@@ -1,0 +1,4 @@
+pub mod Log
+pub mod Digits
+pub mod Lines
+pub mod Files

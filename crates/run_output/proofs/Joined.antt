@@ -1,0 +1,46 @@
+-- A file that is written piece by piece.
+use Rattle.std.proofs.Common.{◌≡◌, ℕ, suc, ◌+◌, List, [], ◌∷◌, ◌++◌, take, drop, get_or, slice_get, flat_map, Some, Err, sym, ap, subst, ◌∙◌, arith, append-nil}
+use Rattle.std.proofs.lemmas.List.{take-append-drop}
+use Rattle.std.proofs.lemmas.List.Concat.{flat_map-append}
+use Rattle.std.proofs.lemmas.Option.{slice_get_within, get_or_from_slice_get}
+use Rattle.std.proofs.Math.Seq.{take-suc}
+use Rattle.host_io.specs.declared.faults.StoreFault.{StoreFault}
+use Rattle.host_io.specs.Outside.{ShelfState}
+use Rattle.run_output.specs.Stored.{Wrote, IsWriting}
+use Rattle.run_output.proofs.Written.{failed_longer}
+
+-- the pieces before an item, and its own
+pub pieces_next : {X Y : Type 0} (f : X → List Y) (xs : List X) (k : ℕ) (x : X) → slice_get xs k ≡ Some x
+    → flat_map f (take (k + 1) xs) ≡ flat_map f (take k xs) ++ f x
+pieces_next f xs k x at =
+    let one : k + 1 ≡ suc k = omega arith in
+    ap (λ n. flat_map f (take n xs)) one
+    ∙ ap (flat_map f) (take-suc xs k x (slice_get_within xs k x at))
+    ∙ flat_map-append f (take k xs) (get_or xs k x ∷ [])
+    ∙ ap (λ ys. flat_map f (take k xs) ++ ys) (append-nil (f (get_or xs k x)) ∙ ap f (get_or_from_slice_get xs k x x at))
+
+-- and those behind it
+pub pieces_all : {X Y : Type 0} (f : X → List Y) (xs : List X) (k : ℕ) (x : X) → slice_get xs k ≡ Some x
+    → flat_map f xs ≡ (flat_map f (take k xs) ++ f x) ++ flat_map f (drop (k + 1) xs)
+pieces_all f xs k x at =
+    ap (flat_map f) (sym (take-append-drop (k + 1) xs))
+    ∙ flat_map-append f (take (k + 1) xs) (drop (k + 1) xs)
+    ∙ ap (λ ys. ys ++ flat_map f (drop (k + 1) xs)) (pieces_next f xs k x at)
+
+-- the piece of one more item was added
+pub piece_added : {X : Type 0} (old now : ShelfState) (name buffer piece : List ℕ) (f : X → List ℕ) (xs : List X) (k : ℕ) (x : X)
+    → slice_get xs k ≡ Some x → piece ≡ f x → IsWriting old now name buffer (flat_map f (take k xs) ++ piece)
+    → IsWriting old now name buffer (flat_map f (take (k + 1) xs))
+piece_added old now name buffer piece f xs k x at is w =
+    let P : List ℕ → Type 0 = λ bytes. IsWriting old now name buffer bytes in
+    subst P (ap (λ ys. flat_map f (take k xs) ++ ys) is ∙ sym (pieces_next f xs k x at)) w
+
+-- the piece of an item was refused
+pub piece_refused : {X : Type 0} (old new : ShelfState) (name piece : List ℕ) (f : X → List ℕ) (xs : List X) (k : ℕ) (x : X) (fault : StoreFault)
+    → slice_get xs k ≡ Some x → piece ≡ f x → Wrote old new name (flat_map f (take k xs) ++ piece) (Err fault)
+    → Wrote old new name (flat_map f xs) (Err fault)
+piece_refused old new name piece f xs k x fault at is h =
+    let P : List ℕ → Type 0 = λ bytes. Wrote old new name bytes (Err fault) in
+    let front : flat_map f (take k xs) ++ piece ≡ flat_map f (take k xs) ++ f x = ap (λ ys. flat_map f (take k xs) ++ ys) is in
+    subst P (sym (pieces_all f xs k x at))
+    (failed_longer old new name (flat_map f (take k xs) ++ f x) (flat_map f (drop (k + 1) xs)) fault (subst P front h))

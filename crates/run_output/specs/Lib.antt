@@ -1,0 +1,5 @@
+pub mod Stored
+pub mod Outputs
+pub mod Texts
+pub mod Counts
+pub mod Report

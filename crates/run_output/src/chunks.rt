@@ -1,0 +1,191 @@
+// Output files, written by chunks through one buffer.
+ghost use Rattle.std.specs.Prelude.{◌≡◌, ◌+◌, ◌≤◌, IfOk, List, ℕ, [], ◌++◌, flat_map, length};
+ghost use Rattle.host_io.specs.Outside.{Appends, ShelfState};
+ghost use Rattle.run_journal.specs.Files.{link_file, uart_file};
+ghost use Rattle.run_output.specs.Stored.{Continues, IsWriting, Wrote};
+ghost use Rattle.run_output.specs.Texts.{journal_text};
+
+use crate::pieces::{Lines, LinkItems, Pieces, UartBytes};
+use board_file::BoardFile;
+use host_io::{FileName, Shelf, StoreFault};
+use run_journal::Journal;
+use std::alloc::Global;
+use std::marker::Model;
+
+/// The most bytes that one call of a shelf is given.
+const SIZE: usize = 65_536;
+
+/// There was no memory for the buffer.
+#[derive(Clone, Copy, Debug, PartialEq, Eq)]
+pub struct NoMemory;
+
+/// The writer of output files: a buffer of 65,536 bytes. It means the bytes that wait in it.
+///
+/// All its memory is taken by `reserve`: the other calls take none, and what they answer for want of memory is the
+/// shelf's own.
+#[derive(Drop)]
+pub struct Chunks {
+    bytes: Vec<u8>,
+}
+
+impl Model for Chunks {
+    ghost use Rattle.std.specs.Prelude.{◌≤◌, List, ℕ, vec_len, vec_capacity};
+
+    ghost Value = { List ℕ };
+
+    ghost view = { λ c. c.bytes.items };
+
+    ghost invariant = { λ c. (vec_len c.bytes ≤ 65536) × (65536 ≤ vec_capacity c.bytes) };
+}
+
+impl Chunks {
+    /// Takes the memory of the buffer. It fails only for want of memory.
+    pub fn reserve(alloc: Global) -> Result<Chunks, NoMemory>
+        ensures { IfOk result (λ chunks. chunks ≡ []) }
+    {
+        let bytes = Vec::with_capacity(alloc, SIZE).map_err(|_| NoMemory)?;
+        Ok(Chunks { bytes })
+    }
+
+    /// Writes the file of a link: the items that the host got from it.
+    pub fn write_link<S: Shelf>(
+        &mut self,
+        alloc: Global,
+        shelf: &mut S,
+        name: &FileName,
+        journal: &Journal,
+        link: u16,
+    ) -> Result<(), StoreFault>
+        ensures { Wrote (S.state shelf.old) (S.state shelf.new) name.now (link_file link journal.now.entries) result }
+    {
+        self.write(
+            alloc,
+            shelf,
+            name,
+            journal,
+            &LinkItems {
+                link: link as usize,
+            },
+        )
+    }
+
+    /// Writes the file of a UART: the bytes that left it.
+    pub fn write_uart<S: Shelf>(
+        &mut self,
+        alloc: Global,
+        shelf: &mut S,
+        name: &FileName,
+        journal: &Journal,
+        uart: u16,
+    ) -> Result<(), StoreFault>
+        ensures { Wrote (S.state shelf.old) (S.state shelf.new) name.now (uart_file uart journal.now.entries) result }
+    {
+        self.write(
+            alloc,
+            shelf,
+            name,
+            journal,
+            &UartBytes {
+                uart: uart as usize,
+            },
+        )
+    }
+
+    /// Writes the text of a journal: a line for each entry, with the names of the board.
+    #[tactic(auto, unfolding(crate::specs::Texts::journal_text))]
+    pub fn write_journal<S: Shelf>(
+        &mut self,
+        alloc: Global,
+        shelf: &mut S,
+        name: &FileName,
+        journal: &Journal,
+        board: &BoardFile,
+    ) -> Result<(), StoreFault>
+        ensures { Wrote (S.state shelf.old) (S.state shelf.new) name.now (journal_text board.now journal.now.entries) result }
+    {
+        self.write(alloc, shelf, name, journal, &Lines { board })
+    }
+
+    /// Writes a file: what each entry adds to it.
+    pub(crate) fn write<S: Shelf, P: Pieces>(
+        &mut self,
+        alloc: Global,
+        shelf: &mut S,
+        name: &FileName,
+        journal: &Journal,
+        pieces: &P,
+    ) -> Result<(), StoreFault>
+        ensures { Wrote (S.state shelf.old) (S.state shelf.new) name.now (flat_map (P.bytes pieces.now) journal.now.entries) result }
+    {
+        self.bytes.clear();
+        shelf.start(alloc, name.as_text())?;
+        for k in 0..journal.len() {
+            let entry = journal.entry(k).unwrap();
+            self.add(alloc, shelf, name, pieces.piece(&entry).as_bytes())?;
+        }
+        self.finish(alloc, shelf, name)
+    }
+
+    /// Adds bytes of a file that is being written. The buffer is sent where they find no room in it.
+    fn add<S: Shelf>(
+        &mut self,
+        alloc: Global,
+        shelf: &mut S,
+        name: &FileName,
+        bytes: &[u8],
+    ) -> Result<(), StoreFault>
+        requires { length bytes.now ≤ 65536 }
+        ensures { (before : ShelfState) (done : List ℕ) → IsWriting before (S.state shelf.old) name.now self.old done
+            → Continues before (S.state shelf.new) name.now self.new (done ++ bytes.now) result }
+    {
+        let room = SIZE - self.bytes.len();
+        if bytes.len() <= room {
+            self.keep(bytes);
+            return Ok(());
+        }
+        let (first, rest) = bytes.split_at(room);
+        self.keep(first);
+        self.send(alloc, shelf, name)?;
+        self.keep(rest);
+        Ok(())
+    }
+
+    /// Sends what is left in the buffer.
+    fn finish<S: Shelf>(
+        &mut self,
+        alloc: Global,
+        shelf: &mut S,
+        name: &FileName,
+    ) -> Result<(), StoreFault>
+        ensures { (before : ShelfState) (done : List ℕ) → IsWriting before (S.state shelf.old) name.now self.old done
+            → Wrote before (S.state shelf.new) name.now done result }
+    {
+        if self.bytes.is_empty() {
+            return Ok(());
+        }
+        self.send(alloc, shelf, name)
+    }
+
+    /// Appends the buffer to the file, and empties it.
+    fn send<S: Shelf>(
+        &mut self,
+        alloc: Global,
+        shelf: &mut S,
+        name: &FileName,
+    ) -> Result<(), StoreFault>
+        ensures sent { Appends (S.state shelf.old) (S.state shelf.new) name.now self.old result }
+        ensures empty { self.new ≡ [] }
+    {
+        let sent = shelf.append(alloc, name.as_text(), self.bytes.as_slice());
+        self.bytes.clear();
+        sent
+    }
+
+    /// Adds bytes for which there is room in the buffer.
+    fn keep(&mut self, bytes: &[u8])
+        requires { length self.old + length bytes.now ≤ 65536 }
+        ensures { self.new ≡ self.old ++ bytes.now }
+    {
+        let _ = self.bytes.extend_from_slice(bytes);
+    }
+}

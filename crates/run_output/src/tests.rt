@@ -1,0 +1,271 @@
+// The lines of reports, and files over a shelf in memory.
+use crate::{
+    Chunks, CoreEnd, CoreEnds, OutputFault, core_line, link_line, print_report, status_line,
+    uart_line,
+};
+use axi_link::Item;
+use board_file::{BoardFile, read_board};
+use core_regs::{StopCause, WaitOn};
+use host_io::{Failing, FileName, MemShelf, MemSink, Name, StoreFault};
+use isa_step::Idle;
+use run_journal::{Entry, Journal, NO_CORE, What};
+use std::alloc::Global;
+use std::test::Fail;
+
+#[test]
+fn each_core_has_its_line(rt: HostRuntime) -> Result<(), Fail> {
+    let waits = |port, full| Some(Idle::Waits(WaitOn { port, full }));
+    let stopped = |cause| Some(Idle::Stopped(cause));
+    let rows = [
+        (Some(Idle::Ended), "core rx ended pc 0000ABCD acts 12\n"),
+        (Some(Idle::Asleep), "core rx asleep pc 0000ABCD acts 12\n"),
+        (waits(3, false), "core rx waits get 3 pc 0000ABCD acts 12\n"),
+        (
+            waits(15, true),
+            "core rx waits put 15 pc 0000ABCD acts 12\n",
+        ),
+        (
+            stopped(StopCause::Illegal(0x5800_0000)),
+            "core rx stopped illegal 58000000 pc 0000ABCD acts 12\n",
+        ),
+        (
+            stopped(StopCause::Slot(0xB800_0000)),
+            "core rx stopped slot B8000000 pc 0000ABCD acts 12\n",
+        ),
+        (
+            stopped(StopCause::InstrBus(0x1_0000)),
+            "core rx stopped ibus 00010000 pc 0000ABCD acts 12\n",
+        ),
+        (
+            stopped(StopCause::DataBus(0xFFFF_FFFC)),
+            "core rx stopped dbus FFFFFFFC pc 0000ABCD acts 12\n",
+        ),
+        (None, "core rx runs pc 0000ABCD acts 12\n"),
+    ];
+    let name = Name::from_text("rx").ok_or("name")?;
+    for (idle, line) in rows {
+        assert_eq!(rt;
+            core_line(&name, idle, 0xABCD, 12).as_bytes(),
+            line.as_bytes()
+        );
+    }
+    Ok(())
+}
+
+#[test]
+fn the_longest_lines_fit(rt: HostRuntime) -> Result<(), Fail> {
+    let longest = Name::from_text("abcdefghijklmnopqrstuvwx").ok_or("name")?;
+    let most = u64::MAX;
+    assert_eq!(rt;
+        status_line(255, most, most).as_bytes(),
+        b"status 255 cycles 18446744073709551615 entries 18446744073709551615\n".as_slice()
+    );
+    assert_eq!(rt;
+        link_line(&longest, most, most).as_bytes(),
+        b"link abcdefghijklmnopqrstuvwx sent 18446744073709551615 taken 18446744073709551615\n".as_slice()
+    );
+    assert_eq!(rt;
+        uart_line(&longest, 0).as_bytes(),
+        b"uart abcdefghijklmnopqrstuvwx left 0\n".as_slice()
+    );
+    Ok(())
+}
+
+/// A core that sends an item to a second, which sends it to a file, and a UART beside them.
+const RELAY: &[u8] = b"version = 1
+core.a = { image = 'a.elf', pipeline = 'plain' }
+core.b = { image = 'b.elf', pipeline = 'plain' }
+link.x = { depth = 1, from = 'a', from_port = 0, to = 'b', to_port = 0 }
+link.y = { depth = 1, from = 'b', from_port = 1, to_file = 'out' }
+uart.u = { core = 'a', base = 0x40600000, output = 'left' }
+";
+
+const SEVEN: Item = Item {
+    word: 7,
+    control: false,
+};
+
+/// The entries of a run of that board, one of them about a link that it lacks.
+#[rattlefmt::skip]
+const ENTRIES: [Entry; 7] = [
+    Entry { cycle: 0, core: 1, act: 0, what: What::Wait(WaitOn { port: 0, full: false }) },
+    Entry { cycle: 1, core: 0, act: 1, what: What::Sent { port: 0, item: SEVEN } },
+    Entry { cycle: 1, core: 1, act: 0, what: What::Got { port: 0, item: SEVEN } },
+    Entry { cycle: 2, core: 1, act: 1, what: What::Sent { port: 1, item: SEVEN } },
+    Entry { cycle: 3, core: NO_CORE, act: 0, what: What::Left { uart: 0, byte: 0x4F } },
+    Entry { cycle: 3, core: NO_CORE, act: 0, what: What::HostGot { link: 1, item: SEVEN } },
+    Entry { cycle: 3, core: NO_CORE, act: 0, what: What::HostSent { link: 2, item: SEVEN } },
+];
+
+const JOURNAL: &[u8] = b"0 b 0 wait get 0
+1 a 1 sent 0 0 00000007
+1 b 0 got 0 0 00000007
+2 b 1 sent 1 0 00000007
+3 - 0 left u 4F
+3 - 0 hostgot y 0 00000007
+3 - 0 hostsent - 0 00000007
+";
+
+const REPORT: &[u8] = b"status 0 cycles 4 entries 7
+core a ended pc 00000008 acts 2
+core b ended pc 00000008 acts 2
+link x sent 1 taken 1
+link y sent 1 taken 1
+uart u left 1
+";
+
+/// A journal of these entries.
+fn journal_of(alloc: Global, entries: &[Entry]) -> Result<Journal, Fail> {
+    let mut journal = Journal::reserve(alloc, entries.len()).map_err(|_| "memory")?;
+    for entry in entries {
+        if journal.spare() >= 1 {
+            journal.push(*entry);
+        }
+    }
+    Ok(journal)
+}
+
+fn relay(alloc: Global) -> Result<BoardFile, Fail> {
+    Ok(read_board(alloc, RELAY).map_err(|_| "board")?)
+}
+
+/// Cores that all stand alike.
+#[derive(Clone, Copy)]
+struct Alike {
+    cores: u16,
+    end: CoreEnd,
+}
+
+impl CoreEnds for Alike {
+    ghost count = { λ a. a.cores };
+
+    ghost ends = { λ a k. a.end };
+
+    fn count(&self) -> u16 {
+        self.cores
+    }
+
+    fn end(&self, _core: u16) -> CoreEnd {
+        self.end
+    }
+}
+
+#[test]
+fn a_report_tells_each_part(rt: HostRuntime) -> Result<(), Fail> {
+    let alloc = rt.alloc();
+    let board = relay(alloc)?;
+    let journal = journal_of(alloc, &ENTRIES)?;
+    let end = CoreEnd {
+        idle: Some(Idle::Ended),
+        pc: 8,
+        acts: 2,
+    };
+    if board.cores.len() != 2 {
+        return Err("cores".into());
+    }
+    let mut out = MemSink::new(Vec::new(alloc), Vec::new(alloc));
+    let ends = Alike { cores: 2, end };
+    let printed = print_report(alloc, &mut out, &board, &ends, &journal, 0, 4);
+    assert_eq!(rt; printed, Ok(()));
+    assert_eq!(rt; out.written(), REPORT);
+    Ok(())
+}
+
+/// A file that a run writes.
+#[derive(Clone, Copy)]
+enum Kind {
+    Link(u16),
+    Uart(u16),
+    Journal,
+}
+
+/// Writes a file of the run above.
+fn write(
+    alloc: Global,
+    chunks: &mut Chunks,
+    shelf: &mut MemShelf,
+    name: &str,
+    kind: Kind,
+) -> Result<Result<(), StoreFault>, Fail> {
+    let name = FileName::from_text(name).ok_or("file")?;
+    let journal = journal_of(alloc, &ENTRIES)?;
+    Ok(match kind {
+        Kind::Link(link) => chunks.write_link(alloc, shelf, &name, &journal, link),
+        Kind::Uart(uart) => chunks.write_uart(alloc, shelf, &name, &journal, uart),
+        Kind::Journal => chunks.write_journal(alloc, shelf, &name, &journal, &relay(alloc)?),
+    })
+}
+
+#[test]
+fn files_hold_what_a_run_sent(rt: HostRuntime) -> Result<(), Fail> {
+    let alloc = rt.alloc();
+    let mut chunks = Chunks::reserve(alloc).map_err(|_| "memory")?;
+    let mut shelf = MemShelf::new(Vec::new(alloc), Vec::new(alloc));
+    let rows: [(&str, Kind, &[u8]); 4] = [
+        ("none", Kind::Link(0), b""),
+        ("out", Kind::Link(1), &[0, 0, 0, 0, 7]),
+        ("left", Kind::Uart(0), b"O"),
+        ("text", Kind::Journal, JOURNAL),
+    ];
+    for (name, kind, content) in rows {
+        assert_eq!(rt;
+            write(alloc, &mut chunks, &mut shelf, name, kind)?,
+            Ok(()),
+            "{name}"
+        );
+        assert_eq!(rt; shelf.content(name), Some(content), "{name}");
+    }
+    Ok(())
+}
+
+#[test]
+fn a_file_that_is_refused_is_named(rt: HostRuntime) -> Result<(), Fail> {
+    let alloc = rt.alloc();
+    let (board, journal) = (relay(alloc)?, journal_of(alloc, &ENTRIES)?);
+    let mut chunks = Chunks::reserve(alloc).map_err(|_| "memory")?;
+    // The append of the third file fails after three bytes.
+    let failing = Vec::from_slice(alloc, &[Failing { call: 5, moved: 3 }])?;
+    let mut shelf = MemShelf::new(Vec::new(alloc), failing);
+    let text = FileName::from_text("text");
+    match chunks.write_outputs(alloc, &mut shelf, &board, &journal, &text) {
+        Err(OutputFault::Failed { file }) => assert_eq!(rt; file.as_text(), "text"),
+        _ => return Err("another answer".into()),
+    }
+    assert_eq!(rt; shelf.content("out"), Some([0, 0, 0, 0, 7].as_slice()));
+    assert_eq!(rt; shelf.content("left"), Some(b"O".as_slice()));
+    assert_eq!(rt; shelf.content("text"), Some(b"0 b".as_slice()));
+    Ok(())
+}
+
+#[test]
+fn a_long_file_goes_by_chunks(rt: HostRuntime) -> Result<(), Fail> {
+    let alloc = rt.alloc();
+    let item = Item {
+        word: 0x0102_0304,
+        control: true,
+    };
+    let what = What::HostGot { link: 1, item };
+    let entry = Entry { what, ..ENTRIES[5] };
+    let journal = journal_of(alloc, &Vec::from_elem(alloc, entry, 14_000)?)?;
+    let mut chunks = Chunks::reserve(alloc).map_err(|_| "memory")?;
+    // The third call is the append of what is behind the first 65,536 bytes.
+    let failing = Vec::from_slice(alloc, &[Failing { call: 2, moved: 0 }])?;
+    let mut shelf = MemShelf::new(Vec::new(alloc), failing);
+    let name = FileName::from_text("out").ok_or("file")?;
+    let failed = Err(StoreFault::Failed);
+    assert_eq!(rt;
+        chunks.write_link(alloc, &mut shelf, &name, &journal, 1),
+        failed
+    );
+    let first = shelf.content("out").ok_or("content")?;
+    assert_eq!(rt; first.len(), 65_536);
+    assert_eq!(rt; &first[65_534..], [4, 1].as_slice());
+    assert_eq!(rt;
+        chunks.write_link(alloc, &mut shelf, &name, &journal, 1),
+        Ok(())
+    );
+    let whole = shelf.content("out").ok_or("content")?;
+    assert_eq!(rt; whole.len(), 70_000);
+    assert_eq!(rt; &whole[65_534..65_541], [4, 1, 1, 2, 3, 4, 1].as_slice());
+    Ok(())
+}
