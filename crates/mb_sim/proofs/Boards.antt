@@ -153,6 +153,12 @@ wrote_loads old new (o ∷ os) store.Failed (inl h) = h.1.loads
 wrote_loads old new (o ∷ os) store.NoMemory (inl h) = ap (λ (f : ShelfFaults). f.load_faults) h.1
 wrote_loads old new (o ∷ os) fault (inr h) = wrote_loads h.0 new os fault h.2 ∙ ap (λ (f : ShelfFaults). f.load_faults) h.1.1
 
+-- where memory was refused, no failed write is counted
+wrote_no_memory : (old new : ShelfState) (outputs : List Output) → WroteAll old new outputs (Err store.NoMemory) → new.faults.write_faults ≡ old.faults.write_faults
+wrote_no_memory old new [] h = absurd h
+wrote_no_memory old new (o ∷ os) (inl h) = ap (λ (f : ShelfFaults). f.write_faults) h.1
+wrote_no_memory old new (o ∷ os) (inr h) = wrote_no_memory h.0 new os h.2 ∙ ap (λ (f : ShelfFaults). f.write_faults) h.1.1
+
 ended_loads : (how : RunEnd) (before now : ℕ) → now ≡ before → CountsLoads before now (status_of how)
 ended_loads (end.Rest rest.Ended) before now e = e
 ended_loads (end.Rest rest.Waiting) before now e = e
@@ -171,22 +177,22 @@ pub puts_loads : (journal : Option (List ℕ)) (board : BoardFile) (last : World
     → CountsLoads shelf.faults.load_faults shelf'.faults.load_faults status
 puts_loads journal board last how shelf shelf' out out' status (all_out w p) = ended_loads how shelf.faults.load_faults shelf'.faults.load_faults (ap (λ (f : ShelfFaults). f.load_faults) (wrote_quiet shelf shelf' _ w))
 puts_loads journal board last how shelf shelf' out out' status (file_stops (output.Failed file) w e) = wrote_loads shelf shelf' _ store.Failed w.0
-puts_loads journal board last how shelf shelf' out out' status (file_stops output.NoMemory w e) = tt
+puts_loads journal board last how shelf shelf' out out' status (file_stops output.NoMemory w e) = wrote_loads shelf shelf' _ store.NoMemory w
 puts_loads journal board last how shelf shelf' out out' status (report_stops store.Failed w p) = ap (λ (f : ShelfFaults). f.load_faults) (wrote_quiet shelf shelf' _ w)
-puts_loads journal board last how shelf shelf' out out' status (report_stops store.NoMemory w p) = tt
+puts_loads journal board last how shelf shelf' out out' status (report_stops store.NoMemory w p) = ap (λ (f : ShelfFaults). f.load_faults) (wrote_quiet shelf shelf' _ w)
 
 pub puts_writes : (journal : Option (List ℕ)) (board : BoardFile) (last : World) (how : RunEnd) (shelf shelf' : ShelfState) (out out' : SinkState) (status : Status) → PutsOut journal board last how shelf shelf' out out' status
     → CountsWrites out.faults out'.faults status
 puts_writes journal board last how shelf shelf' out out' status (all_out w p) = ended_writes how out.faults out'.faults p.1
 puts_writes journal board last how shelf shelf' out out' status (file_stops (output.Failed file) w e) = tt
-puts_writes journal board last how shelf shelf' out out' status (file_stops output.NoMemory w e) = tt
+puts_writes journal board last how shelf shelf' out out' status (file_stops output.NoMemory w e) = ap (λ (o : SinkState). o.faults) e
 puts_writes journal board last how shelf shelf' out out' status (report_stops store.Failed w p) = tt
-puts_writes journal board last how shelf shelf' out out' status (report_stops store.NoMemory w p) = tt
+puts_writes journal board last how shelf shelf' out out' status (report_stops store.NoMemory w p) = p.1
 
 pub puts_stores : (journal : Option (List ℕ)) (board : BoardFile) (last : World) (how : RunEnd) (shelf shelf' : ShelfState) (out out' : SinkState) (status : Status) → PutsOut journal board last how shelf shelf' out out' status
     → CountsWrites shelf.faults.write_faults shelf'.faults.write_faults status
 puts_stores journal board last how shelf shelf' out out' status (all_out w p) = ended_writes how shelf.faults.write_faults shelf'.faults.write_faults (ap (λ (f : ShelfFaults). f.write_faults) (wrote_quiet shelf shelf' _ w))
 puts_stores journal board last how shelf shelf' out out' status (file_stops (output.Failed file) w e) = tt
-puts_stores journal board last how shelf shelf' out out' status (file_stops output.NoMemory w e) = tt
+puts_stores journal board last how shelf shelf' out out' status (file_stops output.NoMemory w e) = wrote_no_memory shelf shelf' _ w
 puts_stores journal board last how shelf shelf' out out' status (report_stops store.Failed w p) = tt
-puts_stores journal board last how shelf shelf' out out' status (report_stops store.NoMemory w p) = tt
+puts_stores journal board last how shelf shelf' out out' status (report_stops store.NoMemory w p) = ap (λ (f : ShelfFaults). f.write_faults) (wrote_quiet shelf shelf' _ w)

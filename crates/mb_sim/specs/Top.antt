@@ -84,16 +84,14 @@ Answers None = SaysUsage
 Answers (Some (Raw file cycles)) = SaysRaw (record { file = file; cycles = cycles })
 Answers (Some (Run board cycles entries journal)) = SaysRun (record { file = board; cycles = cycles; entries = entries; journal = journal })
 
--- a load that failed is answered by its fault, or by want of memory
+-- a load that failed is answered by its fault
 abbrev pub CountsLoads : ℕ → ℕ → Status → Type 0
 CountsLoads before now (ReadFault file) = ⊤
-CountsLoads before now NoMemory = ⊤
 CountsLoads before now status = now ≡ before
 
--- a write that failed is answered by its fault, or by want of memory
+-- a write that failed is answered by its fault
 abbrev pub CountsWrites : ℕ → ℕ → Status → Type 0
 CountsWrites before now (WriteFault file) = ⊤
-CountsWrites before now NoMemory = ⊤
 CountsWrites before now status = now ≡ before
 
 -- the stream gained the line, or a prefix of it where that write was refused

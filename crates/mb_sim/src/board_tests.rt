@@ -252,17 +252,20 @@ fn order_and_clocks_move_the_relay(rt: HostRuntime) -> Result<(), Fail> {
     Ok(())
 }
 
-#[test]
-fn cores_that_wait_for_each_other_are_told(rt: HostRuntime) -> Result<(), Fail> {
-    let row = Row {
-        words: LOGGED,
-        parts: "
+/// Two cores that wait for each other, and a link to the file `out` that stays empty.
+const CROSS_WAIT: &str = "
 core.a = {image = 'a.elf', pipeline = 'plain'}
 core.b = {image = 'b.elf', pipeline = 'plain'}
 link.ab = {from = 'a', from_port = 0, to = 'b', to_port = 0}
 link.ba = {from = 'b', from_port = 0, to = 'a', to_port = 0}
 link.y = {from = 'a', from_port = 1, to_file = 'out'}
-",
+";
+
+#[test]
+fn cores_that_wait_for_each_other_are_told(rt: HostRuntime) -> Result<(), Fail> {
+    let row = Row {
+        words: LOGGED,
+        parts: CROSS_WAIT,
         images: ["6C800000", "6C800000"],
         code: 1,
         printed: "status 1 cycles 0 entries 0
@@ -532,12 +535,46 @@ fn each_call_may_fail(rt: HostRuntime) -> Result<(), Fail> {
         };
         check(&rt, rt.alloc(), &row)?;
     }
+    // The report goes out line by line.
     let unprinted = Row {
-        output_fault: Some((0, 3)),
-        printed: "sta",
+        output_fault: Some((2, 0)),
+        printed: "status 0 cycles 4 entries 5\ncore a ended pc 00000008 acts 2\n",
         told: "mbsim: cannot write output\n",
         code: 8,
         ..Row::relay()
     };
     check(&rt, rt.alloc(), &unprinted)
+}
+
+/// One core with three output files, of which the third is `out`.
+const THREE_FILES: &str = "
+core.a = {image = 'a.elf', pipeline = 'plain'}
+link.x = {from = 'a', from_port = 0, to_file = 'first'}
+link.y = {from = 'a', from_port = 1, to_file = 'journal'}
+link.z = {from = 'a', from_port = 2, to_file = 'out'}
+";
+
+#[test]
+fn files_are_written_in_order(rt: HostRuntime) -> Result<(), Fail> {
+    // An empty file is begun, and nothing is put behind its beginning: the call after it begins the journal.
+    let empty = Row {
+        words: LOGGED,
+        parts: CROSS_WAIT,
+        images: ["6C800000", "6C800000"],
+        shelf_fault: Some((4, 0)),
+        told: "mbsim: cannot write journal\n",
+        left: [Some(b""), None],
+        ..Row::refused(8)
+    };
+    check(&rt, rt.alloc(), &empty)?;
+    // Calls 0 and 1 load, two a file write; the last moves 3 bytes.
+    let third = Row {
+        parts: THREE_FILES,
+        images: ["30600007 6C038000 6C038001 6C038002 B8000000", ""],
+        shelf_fault: Some((7, 3)),
+        told: "mbsim: cannot write out\n",
+        left: [Some(&[0, 0, 0]), Some(SEVEN)],
+        ..Row::refused(8)
+    };
+    check(&rt, rt.alloc(), &third)
 }
