@@ -1,6 +1,7 @@
 // Worked boards, from their files in memory to what is written and printed.
+use crate::tests::{assembled, plan};
 use crate::top::mbsim;
-use host_io::{Failing, FileName, MemFile, MemShelf, MemSink, MemSource};
+use host_io::{FileName, MemFile, MemShelf, MemSink, MemSource};
 use probe_set::ProbeSet;
 use std::alloc::Global;
 use std::process::Abort;
@@ -85,15 +86,20 @@ link.x = {depth = 1, from_file = 'in', to = 'a', to_port = 2}
 link.y = {depth = 1, from = 'a', from_port = 0, to_file = 'out'}
 ";
 
-impl Row<'_> {
+impl<'a> Row<'a> {
     /// The run of the relay that ends with status 0.
     fn relay() -> Self {
+        Row::beside(b"")
+    }
+
+    /// The same beside a file `in` with these bytes, which the relay doesn't read.
+    fn beside(input: &'a [u8]) -> Self {
         Row {
             words: RUN,
             head: "version = 1",
             parts: RELAY,
             images: RELAY_IMAGES,
-            input: b"",
+            input,
             shelf_fault: None,
             output_fault: None,
             code: 0,
@@ -118,27 +124,17 @@ impl Row<'_> {
 const ELF_HEAD: &str =
     "7F454C46 01020100 00000000 00000000 000200BD 00000001 00000000 00000034 00000000 00000000 00340020 00010000 00000000 00000001 00000054 00000000 00000000";
 
-fn push_words(bytes: &mut Vec<u8>, words: &str) -> Result<(), Fail> {
-    for word in words.split(' ') {
-        let word = u32::from_str_radix(word, 16).map_err(|_| "a word")?;
-        bytes.extend_from_slice(&word.to_be_bytes())?;
-    }
-    Ok(())
-}
-
 /// The executable with these words at address 0.
 fn elf(alloc: Global, words: &str) -> Result<Vec<u8>, Fail> {
-    let mut code = Vec::new(alloc);
-    push_words(&mut code, words)?;
+    let code = assembled(alloc, words)?;
     let size = u32::try_from(code.len())
         .map_err(|_| "a size")?
         .to_be_bytes();
-    let mut bytes = Vec::new(alloc);
-    push_words(&mut bytes, ELF_HEAD)?;
+    let mut bytes = assembled(alloc, ELF_HEAD)?;
     bytes.extend_from_slice(&size)?;
     bytes.extend_from_slice(&size)?;
     // Readable and executable, without alignment.
-    push_words(&mut bytes, "00000005 00000001")?;
+    bytes.extend_from_slice(&[0, 0, 0, 5, 0, 0, 0, 1])?;
     bytes.extend_from_slice(code.as_slice())?;
     Ok(bytes)
 }
@@ -163,14 +159,6 @@ fn files(alloc: Global, row: &Row<'_>) -> Result<Vec<MemFile>, Fail> {
     }
     files.push(file("in", Vec::from_slice(alloc, row.input)?)?)?;
     Ok(files)
-}
-
-fn plan(alloc: Global, fault: Option<(u64, usize)>) -> Result<Vec<Failing>, Fail> {
-    let mut plan = Vec::new(alloc);
-    if let Some((call, moved)) = fault {
-        plan.push(Failing { call, moved })?;
-    }
-    Ok(plan)
 }
 
 /// Makes the run of a row, and compares what it gave.
@@ -514,6 +502,20 @@ fn what_is_refused_changes_nothing(rt: HostRuntime) -> Result<(), Fail> {
         check(&rt, rt.alloc(), row)?;
     }
     Ok(())
+}
+
+#[test]
+fn a_long_input_is_refused(rt: HostRuntime) -> Result<(), Fail> {
+    let long = Vec::from_elem(rt.alloc(), 0, 4_194_305)?;
+    let row = Row {
+        parts: ONE_CORE,
+        code: 15,
+        printed: "",
+        told: "mbsim: in is too long\n",
+        left: [None, None],
+        ..Row::beside(&long)
+    };
+    check(&rt, rt.alloc(), &row)
 }
 
 #[test]

@@ -17,8 +17,9 @@ struct Row<'a> {
     words: &'a [&'a str],
     /// The bytes of the file `image`.
     image: &'a [u8],
-    /// Where the first load, write and line on `err` are to fail: the bytes that they move before.
-    failing: [Option<usize>; 3],
+    /// The load, the write and the line on `err` that are to fail: the number of the call, and the bytes that it moves
+    /// before.
+    failing: [Option<(u64, usize)>; 3],
     code: u8,
     printed: &'a [u8],
     told: &'a [u8],
@@ -38,13 +39,13 @@ impl<'a> Row<'a> {
     }
 }
 
-/// The plan by which the first call fails, where it is to fail.
-fn first_fails(alloc: Global, moved: Option<usize>) -> Result<Vec<Failing>, Fail> {
-    let mut failing = Vec::new(alloc);
-    if let Some(moved) = moved {
-        failing.push(Failing { call: 0, moved })?;
+/// The plan by which one call fails, where one is to fail: its number, and the bytes that it moves before.
+pub(crate) fn plan(alloc: Global, fault: Option<(u64, usize)>) -> Result<Vec<Failing>, Fail> {
+    let mut plan = Vec::new(alloc);
+    if let Some((call, moved)) = fault {
+        plan.push(Failing { call, moved })?;
     }
-    Ok(failing)
+    Ok(plan)
 }
 
 /// Makes the call of a row, and compares what it gave.
@@ -55,10 +56,10 @@ fn check(rt: &impl Abort, alloc: Global, row: &Row<'_>) -> Result<(), Fail> {
         name: FileName::from_text("image").ok_or("name")?,
         bytes: Vec::from_slice(alloc, row.image)?,
     })?;
-    let mut shelf = MemShelf::new(files, first_fails(alloc, load)?);
+    let mut shelf = MemShelf::new(files, plan(alloc, load)?);
     let mut script = MemSource::new(Vec::new(alloc), Vec::new(alloc));
-    let mut out = MemSink::new(Vec::new(alloc), first_fails(alloc, write)?);
-    let mut err = MemSink::new(Vec::new(alloc), first_fails(alloc, line)?);
+    let mut out = MemSink::new(Vec::new(alloc), plan(alloc, write)?);
+    let mut err = MemSink::new(Vec::new(alloc), plan(alloc, line)?);
     let status = mbsim(
         alloc,
         row.words,
@@ -133,7 +134,7 @@ fn a_full_journal_ends_a_run(rt: HostRuntime) -> Result<(), Fail> {
 }
 
 /// The bytes of words that are written as hexadecimal digits.
-fn assembled(alloc: Global, words: &str) -> Result<Vec<u8>, Fail> {
+pub(crate) fn assembled(alloc: Global, words: &str) -> Result<Vec<u8>, Fail> {
     let mut bytes = Vec::new(alloc);
     for word in words.split(' ') {
         let word = u32::from_str_radix(word, 16).map_err(|_| "a word")?;
@@ -237,13 +238,13 @@ fn faults_are_told(rt: HostRuntime) -> Result<(), Fail> {
             ..Row::of(&absent, PUT_FIVE)
         },
         Row {
-            failing: [Some(0), None, None],
+            failing: [Some((0, 0)), None, None],
             code: 5,
             told: b"mbsim: cannot read image\n",
             ..Row::of(&words, PUT_FIVE)
         },
         Row {
-            failing: [None, Some(4), None],
+            failing: [None, Some((0, 4)), None],
             code: 8,
             printed: b"0 00",
             told: b"mbsim: cannot write output\n",
@@ -256,13 +257,13 @@ fn faults_are_told(rt: HostRuntime) -> Result<(), Fail> {
         },
         // An `err` that fails changes no status.
         Row {
-            failing: [None, None, Some(7)],
+            failing: [None, None, Some((0, 7))],
             code: 5,
             told: b"mbsim: ",
             ..Row::of(&absent, b"")
         },
         Row {
-            failing: [None, None, Some(3)],
+            failing: [None, None, Some((0, 3))],
             code: 4,
             told: b"mbs",
             ..Row::of(&[], b"")
