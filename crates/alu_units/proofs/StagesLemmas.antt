@@ -7,8 +7,8 @@ use Rattle.alu_units.specs.Units.{shifted, complement}
 use Rattle.alu_units.specs.Integers.{word_of, floor_shift}
 use Rattle.alu_units.proofs.IntegersLemmas.{negative_is, positive_is}
 use Rattle.mb_word.specs.Word.{is_negative}
-use Rattle.alu_units.specs.declared.kinds.ShiftKind.{ShiftKind}
-use Rattle.alu_units.specs.declared.kinds.ShiftKind.TheVariants.{Left, Right, Arith}
+use Rattle.op_table.specs.declared.kinds.ShiftKind.{ShiftKind}
+use Rattle.op_table.specs.declared.kinds.ShiftKind.TheVariants.{Left, Right, Arith}
 
 -- the shifts on words alone: of a negative word the bits that are turned round move
 abbrev pub moved : ShiftKind → ℕ → ℕ → ℕ

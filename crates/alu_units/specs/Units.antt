@@ -4,12 +4,12 @@ use Rattle.std.specs.Int.{to_be_bytes, w32}
 use Rattle.std.specs.List.{position_from, zip}
 use Rattle.mb_word.specs.Word.{bit_of}
 use Rattle.alu_units.specs.Integers.{signed_bits, signed_value, value_of, word_of, floor_shift, high_word}
-use Rattle.alu_units.specs.declared.kinds.LogicKind.{LogicKind}
-use Rattle.alu_units.specs.declared.kinds.LogicKind.TheVariants.{And, Or, Xor, Andn}
-use Rattle.alu_units.specs.declared.kinds.MulKind.{MulKind}
-use Rattle.alu_units.specs.declared.kinds.MulKind.TheVariants.{Low, High, HighSu, HighU}
-use Rattle.alu_units.specs.declared.kinds.ShiftKind.{ShiftKind}
-use Rattle.alu_units.specs.declared.kinds.ShiftKind.TheVariants.{Left, Right, Arith}
+use Rattle.op_table.specs.declared.kinds.LogicKind.{LogicKind}
+use Rattle.op_table.specs.declared.kinds.LogicKind.TheVariants.{And, Or, Xor, Andn}
+use Rattle.op_table.specs.declared.kinds.MulKind.{MulKind}
+use Rattle.op_table.specs.declared.kinds.MulKind.TheVariants.{Low, High, HighSu, HighU}
+use Rattle.op_table.specs.declared.kinds.ShiftKind.{ShiftKind}
+use Rattle.op_table.specs.declared.kinds.ShiftKind.TheVariants.{Left, Right, Arith}
 
 -- a word with all its bits turned round
 abbrev pub complement : ℕ → ℕ

@@ -5,7 +5,6 @@
 
 mod divider;
 mod faults;
-mod kinds;
 mod products;
 mod shifts;
 #[cfg(test)]
@@ -14,7 +13,7 @@ mod words;
 
 pub use divider::{Divider, Quotient, divide};
 pub use faults::DivFault;
-pub use kinds::{LogicKind, MulKind, ShiftKind};
+pub use op_table::{LogicKind, MulKind, ShiftKind};
 pub use products::multiply;
 pub use shifts::{Shifted, barrel, sra, src, srl};
 pub use words::{adder, compare, logic, pattern, pcmpeq, pcmpne, sext8, sext16};

@@ -2,7 +2,7 @@ ghost use Rattle.alu_units.specs.Units.{product_of};
 ghost use Rattle.mb_word.specs.Word.{bit_of, is_negative};
 ghost use Rattle.std.specs.Prelude.{◌≡◌, ◌+◌, ◌-◌, ◌*◌, ◌^◌, ◌<◌, ◌≤◌};
 
-use crate::kinds::MulKind;
+use op_table::MulKind;
 
 /// The two words of a product.
 #[derive(Clone, Copy)]

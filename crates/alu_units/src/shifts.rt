@@ -2,7 +2,7 @@ ghost use Rattle.alu_units.specs.Units.{low_bit, shifted, shifted_in};
 ghost use Rattle.mb_word.specs.Word.{is_negative};
 ghost use Rattle.std.specs.Prelude.{false, ◌≡◌, ◌<◌};
 
-use crate::kinds::ShiftKind;
+use op_table::ShiftKind;
 
 /// A word that was shifted to the right by one place, and the bit that went out of it.
 #[derive(Clone, Copy, PartialEq, Eq, Debug)]

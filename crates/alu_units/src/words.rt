@@ -3,8 +3,8 @@ ghost use Rattle.alu_units.specs.Units.{compared, first_equal_byte, logic_of, si
 ghost use Rattle.mb_word.specs.Word.{bit_of};
 ghost use Rattle.std.specs.Prelude.{int_lt, not, ◌==◌, ◌≡◌, ◌+◌, ◌*◌, ◌^◌};
 
-use crate::kinds::LogicKind;
 use mb_word::{Sum, add_carry, less_signed, sign16};
+use op_table::LogicKind;
 
 /// The sum of two words and a carry (UG984, `add` and, with `a` complemented, `rsub`).
 pub fn adder(a: u32, b: u32, c: bool) -> Sum

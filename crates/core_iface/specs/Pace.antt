@@ -1,8 +1,8 @@
 -- The time of a core, in ticks of its own.
 use Rattle.std.specs.Prelude.{ℕ, ◌+◌, ◌≤◌, ◌==◌, ◌≡◌, if◌then◌else◌, List, slice_index, slice_set, length, Option, Some, None}
 use Rattle.isa_step.specs.declared.acts.Late.{Late}
-use Rattle.isa_step.specs.declared.acts.Latency.{Latency}
-use Rattle.isa_step.specs.declared.acts.Latency.TheVariants.{Single, Multiply, Load}
+use Rattle.op_table.specs.declared.kinds.Latency.{Latency}
+use Rattle.op_table.specs.declared.kinds.Latency.TheVariants.{Single, Multiply, Load}
 
 -- the ticks from an instruction's act to the first in which its register can be used, by the depth of the core
 abbrev pub ready_of : ℕ → Latency → ℕ

@@ -19,9 +19,9 @@ use Rattle.isa_step.specs.declared.acts.Action.TheVariants.{Got, Sent, Seen, Roo
 use Rattle.isa_step.specs.declared.acts.Here.{Here}
 use Rattle.isa_step.specs.declared.acts.Operands.{Operands}
 use Rattle.isa_step.specs.declared.supplying.Given.{Given}
-use Rattle.isa_step.specs.declared.kinds.Kind.{Kind}
-use Rattle.isa_step.specs.declared.kinds.Kind.TheVariants.{Divide, BranchIf, Barrier, Load, Store, Get, Put}
-use Rattle.isa_step.specs.Kinds.{kind_of}
+use Rattle.op_table.specs.declared.kinds.Kind.{Kind}
+use Rattle.op_table.specs.declared.kinds.Kind.TheVariants.{Divide, BranchIf, Barrier, Load, Store, Get, Put}
+use Rattle.op_table.specs.Table.{kind_of}
 use Rattle.isa_step.specs.Deeds.{Deed, Want, Goes, Homes, Gets, Puts, Reads, Writes, faults, raises, stops}
 use Rattle.isa_step.specs.Arithmetic.{divided}
 use Rattle.isa_step.specs.Branches.{branches_if, holds}

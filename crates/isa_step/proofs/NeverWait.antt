@@ -7,8 +7,8 @@ use Rattle.core_regs.specs.declared.causes.Size.TheVariants.{Byte, Half, Word}
 use Rattle.core_regs.specs.State.{exceptions_on}
 use Rattle.byte_mem.specs.Access.{bytes_of, fits, loaded}
 use Rattle.isa_step.specs.declared.supplying.Given.{Given}
-use Rattle.isa_step.specs.declared.kinds.Kind.{Kind}
-use Rattle.isa_step.specs.declared.kinds.Kind.TheVariants.{Load, Store, Get, Put}
+use Rattle.op_table.specs.declared.kinds.Kind.{Kind}
+use Rattle.op_table.specs.declared.kinds.Kind.TheVariants.{Load, Store, Get, Put}
 use Rattle.isa_step.specs.Wants.{effect, is_link}
 use Rattle.isa_step.specs.Shown.{Shown}
 use Rattle.isa_step.specs.Deeds.{Want}

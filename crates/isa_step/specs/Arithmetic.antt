@@ -11,10 +11,10 @@ use Rattle.delay_imm.specs.Slots.{advanced}
 use Rattle.trap_entry.specs.declared.cause.Cause.{Cause}
 use Rattle.trap_entry.specs.declared.cause.Cause.TheVariants.{DivideZero, DivideOverflow}
 use Rattle.isa_step.specs.declared.supplying.Given.{Given}
-use Rattle.isa_step.specs.declared.kinds.TopBit.{TopBit}
-use Rattle.isa_step.specs.declared.kinds.TopBit.TheVariants as top
-use Rattle.isa_step.specs.declared.kinds.Width.{Width}
-use Rattle.isa_step.specs.declared.kinds.Width.TheVariants as width
+use Rattle.op_table.specs.declared.kinds.TopBit.{TopBit}
+use Rattle.op_table.specs.declared.kinds.TopBit.TheVariants as top
+use Rattle.op_table.specs.declared.kinds.Width.{Width}
+use Rattle.op_table.specs.declared.kinds.Width.TheVariants as width
 use Rattle.isa_step.specs.Deeds.{Deed, retires, yields, raises}
 
 -- C becomes the carry out, but where it is kept

@@ -9,10 +9,10 @@ use Rattle.core_regs.specs.State.{msr_bip, with_flag, write_of}
 use Rattle.delay_imm.specs.Slots.{advanced, branched}
 use Rattle.trap_entry.specs.Entries.{left_by}
 use Rattle.isa_step.specs.declared.supplying.Given.{Given}
-use Rattle.isa_step.specs.declared.kinds.Condition.{Condition}
-use Rattle.isa_step.specs.declared.kinds.Condition.TheVariants.{Equal, Unequal, Less, LessOrEqual, Greater, GreaterOrEqual}
-use Rattle.isa_step.specs.declared.kinds.Return.{Return}
-use Rattle.isa_step.specs.declared.kinds.Return.TheVariants as ret
+use Rattle.op_table.specs.declared.kinds.Condition.{Condition}
+use Rattle.op_table.specs.declared.kinds.Condition.TheVariants.{Equal, Unequal, Less, LessOrEqual, Greater, GreaterOrEqual}
+use Rattle.op_table.specs.declared.kinds.Return.{Return}
+use Rattle.op_table.specs.declared.kinds.Return.TheVariants as ret
 use Rattle.isa_step.specs.Deeds.{Deed, jumps, retires}
 
 -- so far from pc on

@@ -1,5 +1,4 @@
 pub mod Shown
-pub mod Kinds
 pub mod Deeds
 pub mod Arithmetic
 pub mod Special

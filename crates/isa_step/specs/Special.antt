@@ -5,8 +5,8 @@ use Rattle.core_regs.specs.State.{status_word, with_status, without, write_of}
 use Rattle.delay_imm.specs.Slots.{advanced, prefixed}
 use Rattle.isa_step.specs.declared.acts.Act.TheVariants as acts
 use Rattle.isa_step.specs.declared.supplying.Given.{Given}
-use Rattle.isa_step.specs.declared.kinds.Special.{Special}
-use Rattle.isa_step.specs.declared.kinds.Special.TheVariants.{Pc, Msr, Ear, Esr, Btr, Edr}
+use Rattle.op_table.specs.declared.kinds.Special.{Special}
+use Rattle.op_table.specs.declared.kinds.Special.TheVariants.{Pc, Msr, Ear, Esr, Btr, Edr}
 use Rattle.isa_step.specs.Deeds.{Deed, retires}
 
 -- mfs: the value of a special register; rpc is the instruction's own address

@@ -10,15 +10,15 @@ use Rattle.mb_decode.specs.declared.instruction.Instr.{Instr}
 use Rattle.isa_step.specs.declared.acts.Act.TheVariants as acts
 use Rattle.isa_step.specs.declared.acts.Here.{Here}
 use Rattle.isa_step.specs.declared.acts.Late.{Late}
-use Rattle.isa_step.specs.declared.acts.Latency.{Latency}
-use Rattle.isa_step.specs.declared.acts.Latency.TheVariants as latency
+use Rattle.op_table.specs.declared.kinds.Latency.{Latency}
 use Rattle.isa_step.specs.declared.acts.Operands.{Operands}
 use Rattle.isa_step.specs.declared.supplying.Given.{Given}
-use Rattle.isa_step.specs.declared.kinds.Kind.{Kind}
-use Rattle.isa_step.specs.declared.kinds.Kind.TheVariants.{Add, Rsub, Compare, Multiply, Shift, Divide, Logic, FirstEqualByte, IsEqual, ShiftByOne, ExtendSign, Cache, MoveFrom, MoveToMsr, SetMsr, ClearMsr, Branch, Break, BranchIf, Return, Prefix, Barrier, Load, Store, Get, Put}
-use Rattle.isa_step.specs.declared.kinds.Second.{Second}
-use Rattle.isa_step.specs.declared.kinds.Second.TheVariants.{Register, Immediate, Count}
-use Rattle.isa_step.specs.Kinds.{kind_of, second_of}
+use Rattle.op_table.specs.declared.kinds.Kind.{Kind}
+use Rattle.op_table.specs.declared.kinds.Kind.TheVariants.{Add, Rsub, Compare, Multiply, Shift, Divide, Logic, FirstEqualByte, IsEqual, ShiftByOne, ExtendSign, Cache, MoveFrom, MoveToMsr, SetMsr, ClearMsr, Branch, Break, BranchIf, Return, Prefix, Barrier, Load, Store, Get, Put}
+use Rattle.op_table.specs.declared.kinds.Second.{Second}
+use Rattle.op_table.specs.declared.kinds.Second.TheVariants.{Register, Immediate, Count}
+use Rattle.op_table.specs.Table.{kind_of, second_of}
+pub use Rattle.op_table.specs.Kinds.{belongs_into_slot, latency_of}
 use Rattle.isa_step.specs.Deeds.{Deed, Want, Goes, Homes, retires, yields, stops, faults}
 use Rattle.isa_step.specs.Arithmetic.{adds, subtracts, divides, equality, shifts_by_one, bits_of}
 use Rattle.isa_step.specs.Special.{special_value, moves_to_msr, sets_msr, clears_msr, holds_prefix, barrier}
@@ -60,22 +60,7 @@ effect (Get dynamic) g a m = gets g a dynamic
 effect (Put dynamic) g a m = puts g a dynamic
 effect kind g a m = Goes (deed_of kind g a)
 
--- how soon its register can be used
-unfoldable pub latency_of : Kind → Option Latency
-latency_of (Multiply k) = Some latency.Multiply
-latency_of (Shift k) = Some latency.Multiply
-latency_of (Load size) = Some latency.Load
-latency_of (Get dynamic) = Some latency.Load
-latency_of (Store size) = None
-latency_of (Put dynamic) = None
-latency_of Cache = None
-latency_of MoveToMsr = None
-latency_of (BranchIf condition delayed) = None
-latency_of (Return from) = None
-latency_of Prefix = None
-latency_of Barrier = None
-latency_of _ = Some latency.Single
-
+-- the register that is late
 abbrev pub late_at : ℕ → Option Latency → Option Late
 late_at rd None = None
 late_at rd (Some l) = if rd == 0 then None else Some (record { reg = rd; latency = l })
@@ -97,16 +82,6 @@ given i o a = record {
   flags = i.flags;
   late = late_at i.rd (latency_of (kind_of i.op));
 }
-
--- branches, returns, breaks, imm and mbar do not belong into a slot
-abbrev pub belongs_into_slot : Kind → Bool
-belongs_into_slot (Branch absolute delayed linked) = false
-belongs_into_slot Break = false
-belongs_into_slot (BranchIf condition delayed) = false
-belongs_into_slot (Return from) = false
-belongs_into_slot Prefix = false
-belongs_into_slot Barrier = false
-belongs_into_slot _ = true
 
 abbrev pub is_link : Kind → Bool
 is_link (Get dynamic) = true

@@ -3,6 +3,7 @@
 use axi_link::Item;
 use core_regs::{Size, StopCause, Take, WaitOn, Write};
 use mb_decode::Instr;
+use op_table::Latency;
 
 /// An address of the bus that no device answers, or that refuses the access.
 #[derive(Clone, Copy, Debug, PartialEq, Eq)]
@@ -105,17 +106,6 @@ pub struct Store {
     pub addr: u32,
     pub size: Size,
     pub word: u32,
-}
-
-/// How soon the register of an instruction can be used.
-#[derive(Clone, Copy, Debug, PartialEq, Eq)]
-pub enum Latency {
-    /// By the next instruction.
-    Single,
-    /// Of a multiply or a barrel shift.
-    Multiply,
-    /// Of a load or a get.
-    Load,
 }
 
 /// The register that an instruction makes late, also where a missed get doesn't write it.

@@ -8,13 +8,13 @@ ghost use Rattle.isa_step.specs.Performing.{Makes, NamesGiven, NamesOf};
 ghost use Rattle.alu_units.specs.Units.{sign_extended};
 
 use crate::acts::Done;
-use crate::kinds::{TopBit, Width};
 use crate::retiring::{exceptions_on, into_rd, raise, retire, yields};
 use crate::supplying::Given;
 use alu_units::{DivFault, adder, divide, pcmpeq, pcmpne, sext8, sext16, sra, src, srl};
 use core_regs::{Arch, Msr};
 use delay_imm::advance;
 use mb_word::Sum;
+use op_table::{TopBit, Width};
 use trap_entry::Cause;
 
 /// rD = a sum, whose carry out goes to C but where it is kept.

@@ -6,12 +6,11 @@ ghost use Rattle.isa_step.specs.Branches.{ahead, branches, branches_if, breaks_o
 ghost use Rattle.isa_step.specs.Performing.{Makes, NamesGiven, NamesOf};
 
 use crate::acts::Done;
-use crate::kinds::{Condition, Return};
 use crate::retiring::{into_rd, jump, retire};
 use crate::supplying::Given;
 use core_regs::{Arch, Msr};
 use delay_imm::{advance, branch};
-use op_table::Op;
+use op_table::{Condition, Op, Return};
 use trap_entry::leave;
 
 /// So far from pc on.

@@ -9,7 +9,6 @@ ghost use Rattle.isa_step.specs.Wants.{deed_of, effect};
 use crate::acts::{Done, Outcome};
 use crate::arithmetic::{adds, divides, equality, extends_sign, shifts_by_one, subtracts};
 use crate::branching::{branches, branches_if, breaks_off, holds, returns};
-use crate::kinds::Kind;
 use crate::linking::{gets, puts};
 use crate::loading::{loads, stores};
 use crate::ports::Ports;
@@ -20,6 +19,7 @@ use alu_units::{barrel, compare, logic, multiply, pattern};
 use byte_mem::Memory;
 use core_regs::Arch;
 use delay_imm::advance;
+use op_table::Kind;
 
 /// An instruction that asks nothing of the outside.
 #[tactic(auto, unfolding(crate::specs::Wants::deed_of))]

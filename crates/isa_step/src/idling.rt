@@ -4,21 +4,19 @@ ghost use Rattle.std.specs.Prelude.{◌≡◌, IfSome, List, ℕ};
 ghost use Rattle.core_regs.specs.State.{bare};
 ghost use Rattle.mb_decode.specs.Meaning.{NamesRegisters};
 ghost use Rattle.isa_step.specs.Due.{met};
-ghost use Rattle.isa_step.specs.Kinds.{kind_of};
+ghost use Rattle.op_table.specs.Table.{kind_of};
 ghost use Rattle.isa_step.specs.Resting.{idle_by, idle_of, idle_want, is_quiet};
 ghost use Rattle.isa_step.specs.Wants.{effect, operands_of, wants, wants_kind};
 
 use crate::acts::{Here, Idle, Operands};
-use crate::kinds::{Kind, kind_of};
 use crate::linking::{is_nonblocking, port_of};
 use crate::ports::Sees;
-use crate::stepping::{
-    belongs_into_slot, is_atomic_here, is_banned, is_closed, is_end, is_link, met,
-};
+use crate::stepping::{is_atomic_here, is_banned, is_closed, is_end, is_link, met};
 use crate::supplying::{Given, read_operands, supply};
 use core_regs::{Arch, WaitOn};
 use delay_imm::may_take;
 use mb_decode::Instr;
+use op_table::{Kind, belongs_into_slot, kind_of};
 
 /// Whether no take can come.
 #[tactic(auto, unfolding(crate::specs::Resting::is_quiet))]
@@ -64,7 +62,7 @@ fn idle_instr<P: Sees>(i: &Instr, word: u32, o: &Operands, a: &Arch, p: &P) -> O
     if is_banned(i, kind, a.network) {
         return None;
     }
-    if a.slot.is_some() && !belongs_into_slot(kind) {
+    if a.slot.is_some() && !belongs_into_slot(i.op) {
         return None;
     }
     if !is_link(kind) {

@@ -1,24 +1,13 @@
 //! Laws of the step that layers above cite.
 
-ghost use Rattle.std.specs.Prelude.{◌≡◌};
-ghost use Rattle.op_table.specs.declared.op.Op.{Op};
-ghost use Rattle.op_table.specs.Table.{row_for};
 ghost use Rattle.isa_step.specs.History.{IsTold};
-ghost use Rattle.isa_step.specs.Kinds.{kind_of};
 ghost use Rattle.isa_step.specs.Resting.{IsRest};
-ghost use Rattle.isa_step.specs.Wants.{belongs_into_slot};
 
 /// Each act that is due is told by its actions at the ports: so the view after any number of acts follows from the
 /// first view and the actions of each act.
 #[tactic(auto, using(crate::proofs::Telling::is_told))]
 pub fn acts_are_told()
     ensures { IsTold }
-{}
-
-/// What may stand in a slot is what the instruction table says of its row.
-#[tactic(auto, using(crate::proofs::Placing::slots_agree))]
-pub fn slots_agree()
-    ensures { (op : Op) → (row_for op).slot_ok ≡ belongs_into_slot (kind_of op) }
 {}
 
 /// A core rests exactly where no act is due now and none will be: where `idle` names why, no act is due for that very

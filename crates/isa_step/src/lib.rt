@@ -7,7 +7,6 @@ mod bench;
 mod branching;
 mod executing;
 mod idling;
-mod kinds;
 mod laws;
 mod linking;
 mod loading;
@@ -20,13 +19,15 @@ mod supplying;
 mod tests;
 
 pub use acts::{
-    Act, Action, Breaks, BusError, Done, Here, Hopes, Idle, Late, Latency, Operands, Outcome, Step,
-    Store,
+    Act, Action, Breaks, BusError, Done, Here, Hopes, Idle, Late, Operands, Outcome, Step, Store,
 };
 pub use bench::BenchPorts;
 pub use idling::{idle, idle_at};
-pub use kinds::{Condition, Kind, Return, Second, Special, TopBit, Width, kind_of, second_of};
-pub use laws::{acts_are_told, rest_is_final, slots_agree};
+pub use laws::{acts_are_told, rest_is_final};
+pub use op_table::{
+    Condition, Kind, Latency, Return, Second, Special, TopBit, Width, kind_of, latency_of,
+    second_of,
+};
 pub use ports::{Ports, Sees};
 pub use stepping::{act, here_at, is_atomic_here, is_closed, met, perform, perform_here, take_due};
-pub use supplying::{Given, latency_of, read_operands, supply};
+pub use supplying::{Given, read_operands, supply};

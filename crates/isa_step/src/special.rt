@@ -6,12 +6,12 @@ ghost use Rattle.isa_step.specs.Special.{barrier, clears_msr, holds_prefix, is_s
 ghost use Rattle.isa_step.specs.Performing.{Makes, NamesGiven, NamesOf};
 
 use crate::acts::{Act, Done};
-use crate::kinds::Special;
 use crate::retiring::{into_rd, retire};
 use crate::supplying::Given;
 use bitflags::Flags;
 use core_regs::Arch;
 use delay_imm::{advance, hold_prefix};
+use op_table::Special;
 
 /// The value that `mfs` reads.
 pub fn special_value(a: &Arch, special: Special) -> u32

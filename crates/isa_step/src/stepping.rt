@@ -5,13 +5,12 @@ ghost use Rattle.core_regs.specs.State.{bare};
 ghost use Rattle.mb_decode.specs.Meaning.{NamesRegisters};
 ghost use Rattle.isa_step.specs.Deeds.{Does, Homes, faults};
 ghost use Rattle.isa_step.specs.Due.{due, due_with, here_at, is_closed, is_masked, met, pick, reply, take_by, take_due, takes};
-ghost use Rattle.isa_step.specs.Kinds.{kind_of};
+ghost use Rattle.op_table.specs.Table.{kind_of};
 ghost use Rattle.isa_step.specs.Performing.{Makes, Names, NamesOf, Performed, Stepped};
-ghost use Rattle.isa_step.specs.Wants.{belongs_into_slot, comes_home, is_atomic_here, is_banned, is_end, is_link, wants, wants_kind};
+ghost use Rattle.isa_step.specs.Wants.{comes_home, is_atomic_here, is_banned, is_end, is_link, wants, wants_kind};
 
 use crate::acts::{Act, Done, Here, Hopes, Idle, Operands, Outcome, Step};
 use crate::executing::execute;
-use crate::kinds::{Kind, kind_of};
 use crate::linking::{is_atomic, is_nonblocking};
 use crate::ports::{Ports, Sees};
 use crate::retiring::{exceptions_on, raise, stop};
@@ -20,6 +19,7 @@ use byte_mem::Memory;
 use core_regs::{Arch, Msr, Size, StopCause, Take};
 use delay_imm::{branch, may_take};
 use mb_decode::{Instr, decode};
+use op_table::{Kind, belongs_into_slot, kind_of};
 use trap_entry::{Cause, divert};
 
 /// The word that ends a program, the branch to itself `bri 0`.
@@ -35,21 +35,6 @@ fn faults(a: &mut Arch, cause: &Cause, why: StopCause) -> Done
     } else {
         stop(a, why)
     }
-}
-
-/// Whether an instruction may stand in the slot of a branch.
-pub fn belongs_into_slot(kind: Kind) -> bool
-    ensures { result ≡ belongs_into_slot kind }
-{
-    !matches!(
-        kind,
-        Kind::Branch { .. }
-            | Kind::Break
-            | Kind::BranchIf { .. }
-            | Kind::Return(_)
-            | Kind::Prefix
-            | Kind::Barrier
-    )
 }
 
 pub fn is_link(kind: Kind) -> bool
@@ -83,7 +68,7 @@ fn do_instr<P: Ports>(
     if is_banned(i, kind, a.network) {
         return Outcome::Did(faults(a, &Cause::Illegal, StopCause::Illegal(word)));
     }
-    if a.slot.is_some() && !belongs_into_slot(kind) {
+    if a.slot.is_some() && !belongs_into_slot(i.op) {
         return Outcome::Did(stop(a, StopCause::Slot(word)));
     }
     let given = supply(i, kind, o, a);

@@ -2,16 +2,16 @@
 
 ghost use Rattle.std.specs.Prelude.{◌≡◌, ◌<◌, IfSome};
 ghost use Rattle.mb_decode.specs.Meaning.{NamesRegisters};
-ghost use Rattle.isa_step.specs.Wants.{given, late_at, latency_of, operands_by, operands_of, second_value};
+ghost use Rattle.isa_step.specs.Wants.{given, late_at, operands_by, operands_of, second_value};
 ghost use Rattle.core_regs.specs.State.{bare, reg};
-ghost use Rattle.isa_step.specs.Kinds.{kind_of};
+ghost use Rattle.op_table.specs.Table.{kind_of};
 ghost use Rattle.isa_step.specs.Performing.{NamesGiven};
 
-use crate::acts::{Here, Late, Latency, Operands};
-use crate::kinds::{Kind, Second, kind_of, second_of};
+use crate::acts::{Here, Late, Operands};
 use core_regs::Arch;
 use delay_imm::immediate;
 use mb_decode::Instr;
+use op_table::{Kind, Latency, Second, latency_of, second_of};
 
 /// An instruction with the values of its operands: all that its effect sees beside the control registers.
 #[derive(Clone, Copy, Debug, PartialEq, Eq)]
@@ -26,27 +26,6 @@ pub struct Given {
     pub imm: u16,
     pub flags: u8,
     pub late: Option<Late>,
-}
-
-/// How soon the register of an instruction can be used, `None` where it writes none.
-#[tactic(auto, unfolding(crate::specs::Wants::latency_of))]
-#[inline(always)]
-pub fn latency_of(kind: Kind) -> Option<Latency>
-    ensures { result ≡ latency_of kind }
-{
-    match kind {
-        Kind::Multiply(_) | Kind::Shift(_) => Some(Latency::Multiply),
-        Kind::Load(_) | Kind::Get { .. } => Some(Latency::Load),
-        Kind::Store(_)
-        | Kind::Put { .. }
-        | Kind::Cache
-        | Kind::MoveToMsr
-        | Kind::BranchIf { .. }
-        | Kind::Return(_)
-        | Kind::Prefix
-        | Kind::Barrier => None,
-        _ => Some(Latency::Single),
-    }
 }
 
 fn late_at(reg: u8, latency: Option<Latency>) -> Option<Late>
@@ -86,7 +65,7 @@ pub fn supply(i: &Instr, kind: Kind, o: &Operands, a: &Arch) -> Given
         d: o.d,
         imm: i.imm,
         flags: i.flags,
-        late: late_at(i.rd, latency_of(kind)),
+        late: late_at(i.rd, latency_of(i.op)),
     }
 }
 

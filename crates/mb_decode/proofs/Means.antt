@@ -7,9 +7,8 @@ use Rattle.std.proofs.lemmas.Bool.{cases_Bool, eq-eqb, eqb-true}
 use Rattle.std.proofs.lemmas.List.Elements.{All-contains, All-filter, All-contains_itself, filter_passes}
 use Rattle.op_table.specs.declared.entry.Row.{Row}
 use Rattle.op_table.specs.declared.form.Form.{Form}
-use Rattle.op_table.specs.declared.form.Form.TheVariants.{A, S, N, E, G, P}
+use Rattle.op_table.specs.declared.form.Form.TheVariants.{A}
 use Rattle.op_table.specs.declared.op.Op.{Op}
-use Rattle.op_table.specs.declared.op.Op.TheVariants.{Add}
 use Rattle.op_table.specs.Table.{rows, matches, rows_of, row_for, IsRowOf, IsSound}
 use Rattle.mb_decode.specs.declared.instruction.Instr.{Instr}
 use Rattle.mb_decode.specs.Meaning.{read, Fits, placed, the_only, Means, InRange, imm_limit}
@@ -111,26 +110,12 @@ one_word known sound v w i v_word w_word v_means w_means =
 pub one_instruction : (w : ℕ) (i j : Instr) → Means w i → Means w j → i ≡ j
 one_instruction w i j i_means j_means = cc
 
--- the same limit told by the form
-abbrev form_limit : Form → ℕ
-form_limit S = 32
-form_limit N = 32
-form_limit E = 2 ^ 15
-form_limit G = 16
-form_limit P = 16
-form_limit _ = 2 ^ 16
-
-limit_of_form : (op : Op) → form_limit (row_for op).form ≡ imm_limit op
-unfolding rows row_for
-limit_of_form Add = refl
-limit_of_form _ = refl
-
-below_form_limit : (f : Form) (i : Instr) → Fits f i → (i.imm < form_limit f) × (i.flags < 32)
-below_form_limit A i fits = (omega arith, omega arith)
-below_form_limit _ i fits = (omega arith, omega arith)
+below_limit : (f : Form) (i : Instr) → Fits f i → (i.imm < imm_limit f) × (i.flags < 32)
+below_limit A i fits = (omega arith, omega arith)
+below_limit _ i fits = (omega arith, omega arith)
 
 -- what fits its row is in the range of its instruction
 pub in_range : (i : Instr) → Fits (row_for i.op).form i → InRange i
 in_range i fits =
-    let below = below_form_limit (row_for i.op).form i fits in
-    record { imm = rw (← limit_of_form i.op) below.0; flags = below.1 }
+    let below = below_limit (row_for i.op).form i fits in
+    record { imm = below.0; flags = below.1 }

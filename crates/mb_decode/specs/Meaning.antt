@@ -3,10 +3,9 @@ use Rattle.std.specs.Prelude.{◌≡◌, ℕ, ◌+◌, ◌*◌, ◌/◌, ◌%◌
 use Rattle.std.specs.Option.{option_map}
 use Rattle.op_table.specs.declared.entry.Row.{Row}
 use Rattle.op_table.specs.declared.op.Op.{Op}
-use Rattle.op_table.specs.declared.op.Op.TheVariants as op
 use Rattle.op_table.specs.declared.form.Form.{Form}
 use Rattle.op_table.specs.declared.form.Form.TheVariants.{A, U, B, S, R, Rl, I, Il, Cr, Ci, M, N, T, E, G, P, Gd, Pd}
-use Rattle.op_table.specs.Table.{rows_of}
+use Rattle.op_table.specs.Table.{row_for, rows_of}
 use Rattle.mb_word.specs.Word.{field}
 use Rattle.mb_decode.specs.declared.instruction.Instr.{Instr}
 
@@ -105,19 +104,16 @@ pub record NamesRegisters (i : Instr) : Type 0 where
   pub ra : i.ra < 32
   pub rb : i.rb < 32
 
--- the immediate of an instruction is less than this: a port, a shift count or number of `mbar`, 15 bits, else 16 bits
-abbrev pub imm_limit : Op → ℕ
-imm_limit op.Get = 16
-imm_limit op.Put = 16
-imm_limit op.Bsrli = 32
-imm_limit op.Bsrai = 32
-imm_limit op.Bslli = 32
-imm_limit op.Mbar = 32
-imm_limit op.Msrset = 2 ^ 15
-imm_limit op.Msrclr = 2 ^ 15
+-- the immediate of a form is less than this: a port, a shift count or number of `mbar`, 15 bits, else 16 bits
+abbrev pub imm_limit : Form → ℕ
+imm_limit G = 16
+imm_limit P = 16
+imm_limit S = 32
+imm_limit N = 32
+imm_limit E = 2 ^ 15
 imm_limit _ = 2 ^ 16
 
--- what the other fields can hold, told by the instruction in place of its form
+-- what the other fields can hold
 pub record InRange (i : Instr) : Type 0 where
-  pub imm : i.imm < imm_limit i.op
+  pub imm : i.imm < imm_limit (row_for i.op).form
   pub flags : i.flags < 32

@@ -1,19 +1,8 @@
 -- Which registers an instruction reads and writes, by its word alone. Register 0 always holds 0 and never counts; as a field that
 -- a form lacks is 0, the fields rA and rB that count are those of the form.
-use Rattle.std.specs.Prelude.{ℕ, Bool, true, false, not, ◌==◌, ◌&&◌, ◌||◌, Option, None, Some, if◌then◌else◌}
-use Rattle.op_table.specs.declared.op.Op.{Op}
-use Rattle.op_table.specs.declared.op.Op.TheVariants as op
+use Rattle.std.specs.Prelude.{ℕ, Bool, not, ◌==◌, ◌&&◌, ◌||◌, Option, None, Some, if◌then◌else◌}
+use Rattle.op_table.specs.Table.{is_store}
 use Rattle.mb_decode.specs.declared.instruction.Instr.{Instr}
-
--- the instructions that store to memory
-abbrev pub is_store : Op → Bool
-is_store op.Sb = true
-is_store op.Sh = true
-is_store op.Sw = true
-is_store op.Sbi = true
-is_store op.Shi = true
-is_store op.Swi = true
-is_store _ = false
 
 -- a field rA or rB names a register that is read
 abbrev pub reads_a : Instr → Bool

@@ -12,4 +12,3 @@ mod tests;
 pub use decoding::decode;
 pub use encoding::{encode, round_trips};
 pub use instruction::Instr;
-pub use registers::is_store;

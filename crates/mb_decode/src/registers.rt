@@ -1,15 +1,8 @@
-ghost use Rattle.mb_decode.specs.Registers.{is_store, reads, reads_a, reads_b, reads_d, written};
+ghost use Rattle.mb_decode.specs.Registers.{reads, reads_a, reads_b, reads_d, written};
 ghost use Rattle.std.specs.Prelude.{◌≡◌};
 
 use crate::instruction::Instr;
-use op_table::Op;
-
-/// Whether an instruction stores to memory.
-pub fn is_store(op: Op) -> bool
-    ensures { result ≡ is_store op }
-{
-    matches!(op, Op::Sb | Op::Sh | Op::Sw | Op::Sbi | Op::Shi | Op::Swi)
-}
+use op_table::is_store;
 
 /// Register 0 always holds 0, so that no field that names it, and none that a form lacks, counts as read or written.
 impl Instr {

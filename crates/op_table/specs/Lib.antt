@@ -1,2 +1,4 @@
 pub mod Forms
+pub mod Kinds
+pub mod Mnemonics
 pub mod Table

@@ -6,7 +6,9 @@
 
 mod entry;
 mod form;
+mod kinds;
 mod lookup;
+mod mnemonic;
 mod op;
 mod table;
 #[cfg(test)]
@@ -14,6 +16,13 @@ mod tests;
 
 pub use entry::Row;
 pub use form::Form;
-pub use lookup::{at_most_one_row, candidates, every_row_is_known, row, row_of};
+pub use kinds::{
+    Condition, Kind, Latency, LogicKind, MulKind, Return, Second, ShiftKind, Special, TopBit, Width,
+};
+pub use lookup::{
+    at_most_one_row, belongs_into_slot, candidates, every_row_is_known, is_store, kind_of,
+    latency_of, row, row_of, second_of,
+};
+pub use mnemonic::Mnemonic;
 pub use op::Op;
 pub use table::COUNT;

@@ -1,13 +1,17 @@
+ghost use Rattle.op_table.specs.Kinds.{belongs_into_slot, latency_of};
 ghost use Rattle.op_table.specs.Table.{
   IsRowOf,
   IsSound,
   first_rows,
+  is_store,
+  kind_of,
   matches,
   opcode,
   place,
   row_for,
   rows,
   rows_of,
+  second_of,
 };
 ghost use Rattle.std.specs.Prelude.{
   ◌≡◌,
@@ -25,6 +29,7 @@ ghost use Rattle.std.specs.Prelude.{
 };
 
 use crate::entry::Row;
+use crate::kinds::{Kind, Latency, Second};
 use crate::op::Op;
 use crate::table::{COUNT, FIRST_ROW, ROWS};
 
@@ -53,6 +58,7 @@ fn place(op: Op) -> usize
 }
 
 /// The row of an instruction: the only one in the table with its name.
+#[inline(always)]
 pub fn row_of(op: Op) -> Row
     ensures row { result ≡ row_for op }
     ensures only { IsRowOf op result }
@@ -60,6 +66,45 @@ pub fn row_of(op: Op) -> Row
 {
     every_row_is_known();
     all_rows()[place(op)]
+}
+
+/// What an instruction does.
+#[inline(always)]
+pub fn kind_of(op: Op) -> Kind
+    ensures { result ≡ kind_of op }
+{
+    row_of(op).kind
+}
+
+/// Where the second operand of an instruction stands.
+#[inline(always)]
+pub fn second_of(op: Op) -> Second
+    ensures { result ≡ second_of op }
+{
+    row_of(op).second
+}
+
+/// How soon the register that an instruction writes can be used, `None` where it writes none.
+#[inline(always)]
+pub fn latency_of(op: Op) -> Option<Latency>
+    ensures { result ≡ latency_of (kind_of op) }
+{
+    row_of(op).latency
+}
+
+/// Whether an instruction may stand in the slot of a branch.
+#[inline(always)]
+pub fn belongs_into_slot(op: Op) -> bool
+    ensures { result ≡ belongs_into_slot (kind_of op) }
+{
+    row_of(op).slot_ok
+}
+
+/// Whether an instruction stores to memory.
+pub fn is_store(op: Op) -> bool
+    ensures { result ≡ is_store op }
+{
+    matches!(kind_of(op), Kind::Store(_))
 }
 
 /// Each instruction has one row, whose mask is that of its form.

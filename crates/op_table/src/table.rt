@@ -2,7 +2,12 @@
 
 use crate::entry::Row;
 use crate::form::Form;
+use crate::kinds::{
+    Condition, Kind, Latency, LogicKind, MulKind, Return, Second, ShiftKind, Special, TopBit, Width,
+};
+use crate::mnemonic::Mnemonic;
 use crate::op::Op;
+use core_regs::Size;
 
 /// How many rows the table has.
 pub const COUNT: usize = 120;
@@ -29,161 +34,206 @@ macro_rules! mask {
     (Pd) => { 0xFFE0_043F };
 }
 
-/// A row by its instruction, its form and the bits that it fixes. `no_slot` marks an instruction that is not allowed in
-/// a delay slot.
-macro_rules! row {
-    ($op:ident $form:ident $bits:literal) => {
-        Row { op: Op::$op, mask: mask!($form), bits: $bits, form: Form::$form, slot_ok: true }
+/// A letter of a mnemonic, 0 after the last.
+macro_rules! letter {
+    ($name:literal $k:literal) => {
+        if $k < $name.len() { $name[$k] } else { 0 }
     };
-    ($op:ident $form:ident $bits:literal no_slot) => {
-        Row { op: Op::$op, mask: mask!($form), bits: $bits, form: Form::$form, slot_ok: false }
+}
+
+/// A mnemonic.
+macro_rules! mnemonic {
+    ($name:literal) => {
+        Mnemonic {
+            letters: [
+                letter!($name 0),
+                letter!($name 1),
+                letter!($name 2),
+                letter!($name 3),
+                letter!($name 4),
+                letter!($name 5),
+                letter!($name 6),
+                letter!($name 7),
+                letter!($name 8),
+            ],
+        }
+    };
+}
+
+/// How soon a row's register can be used.
+macro_rules! latency {
+    (None) => { None };
+    ($latency:ident) => { Some(Latency::$latency) };
+}
+
+/// Whether a row's instruction is allowed in a delay slot.
+macro_rules! allowed {
+    (slot) => { true };
+    (no_slot) => { false };
+}
+
+/// A row: its instruction, mnemonic, form and the bits that it fixes; where its second operand stands, how soon its
+/// register can be used, whether a delay slot takes it, and what it does.
+macro_rules! row {
+    ($op:ident $name:literal $form:ident $bits:literal $second:ident $latency:ident $slot:ident $($kind:tt)+) => {
+        Row {
+            op: Op::$op,
+            name: mnemonic!($name),
+            mask: mask!($form),
+            bits: $bits,
+            form: Form::$form,
+            second: Second::$second,
+            latency: latency!($latency),
+            slot_ok: allowed!($slot),
+            kind: Kind::$($kind)+,
+        }
     };
 }
 
 /// The rows, in the order of their opcodes (UG984, "MicroBlaze Instruction Set Architecture") and of the variants of `Op`.
 pub static ROWS: [Row; COUNT] = [
     // Opcodes 00 to 07: sums and differences of registers; 05 has the comparisons too.
-    row!(Add      A  0x0000_0000),
-    row!(Rsub     A  0x0400_0000),
-    row!(Addc     A  0x0800_0000),
-    row!(Rsubc    A  0x0C00_0000),
-    row!(Addk     A  0x1000_0000),
-    row!(Rsubk    A  0x1400_0000),
-    row!(Cmp      A  0x1400_0001),
-    row!(Cmpu     A  0x1400_0003),
-    row!(Addkc    A  0x1800_0000),
-    row!(Rsubkc   A  0x1C00_0000),
+    row!(Add      b"add"       A  0x0000_0000 Register  Single   slot    Add { carry: false, keep: false }),
+    row!(Rsub     b"rsub"      A  0x0400_0000 Register  Single   slot    Rsub { carry: false, keep: false }),
+    row!(Addc     b"addc"      A  0x0800_0000 Register  Single   slot    Add { carry: true, keep: false }),
+    row!(Rsubc    b"rsubc"     A  0x0C00_0000 Register  Single   slot    Rsub { carry: true, keep: false }),
+    row!(Addk     b"addk"      A  0x1000_0000 Register  Single   slot    Add { carry: false, keep: true }),
+    row!(Rsubk    b"rsubk"     A  0x1400_0000 Register  Single   slot    Rsub { carry: false, keep: true }),
+    row!(Cmp      b"cmp"       A  0x1400_0001 Register  Single   slot    Compare { signed: true }),
+    row!(Cmpu     b"cmpu"      A  0x1400_0003 Register  Single   slot    Compare { signed: false }),
+    row!(Addkc    b"addkc"     A  0x1800_0000 Register  Single   slot    Add { carry: true, keep: true }),
+    row!(Rsubkc   b"rsubkc"    A  0x1C00_0000 Register  Single   slot    Rsub { carry: true, keep: true }),
     // Opcodes 08 to 0F: the same with an immediate.
-    row!(Addi     B  0x2000_0000),
-    row!(Rsubi    B  0x2400_0000),
-    row!(Addic    B  0x2800_0000),
-    row!(Rsubic   B  0x2C00_0000),
-    row!(Addik    B  0x3000_0000),
-    row!(Rsubik   B  0x3400_0000),
-    row!(Addikc   B  0x3800_0000),
-    row!(Rsubikc  B  0x3C00_0000),
+    row!(Addi     b"addi"      B  0x2000_0000 Immediate Single   slot    Add { carry: false, keep: false }),
+    row!(Rsubi    b"rsubi"     B  0x2400_0000 Immediate Single   slot    Rsub { carry: false, keep: false }),
+    row!(Addic    b"addic"     B  0x2800_0000 Immediate Single   slot    Add { carry: true, keep: false }),
+    row!(Rsubic   b"rsubic"    B  0x2C00_0000 Immediate Single   slot    Rsub { carry: true, keep: false }),
+    row!(Addik    b"addik"     B  0x3000_0000 Immediate Single   slot    Add { carry: false, keep: true }),
+    row!(Rsubik   b"rsubik"    B  0x3400_0000 Immediate Single   slot    Rsub { carry: false, keep: true }),
+    row!(Addikc   b"addikc"    B  0x3800_0000 Immediate Single   slot    Add { carry: true, keep: true }),
+    row!(Rsubikc  b"rsubikc"   B  0x3C00_0000 Immediate Single   slot    Rsub { carry: true, keep: true }),
     // Opcode 10: products, low word and high words.
-    row!(Mul      A  0x4000_0000),
-    row!(Mulh     A  0x4000_0001),
-    row!(Mulhsu   A  0x4000_0002),
-    row!(Mulhu    A  0x4000_0003),
+    row!(Mul      b"mul"       A  0x4000_0000 Register  Multiply slot    Multiply(MulKind::Low)),
+    row!(Mulh     b"mulh"      A  0x4000_0001 Register  Multiply slot    Multiply(MulKind::High)),
+    row!(Mulhsu   b"mulhsu"    A  0x4000_0002 Register  Multiply slot    Multiply(MulKind::HighSu)),
+    row!(Mulhu    b"mulhu"     A  0x4000_0003 Register  Multiply slot    Multiply(MulKind::HighU)),
     // Opcode 11: shifts by a register.
-    row!(Bsrl     A  0x4400_0000),
-    row!(Bsra     A  0x4400_0200),
-    row!(Bsll     A  0x4400_0400),
+    row!(Bsrl     b"bsrl"      A  0x4400_0000 Register  Multiply slot    Shift(ShiftKind::Right)),
+    row!(Bsra     b"bsra"      A  0x4400_0200 Register  Multiply slot    Shift(ShiftKind::Arith)),
+    row!(Bsll     b"bsll"      A  0x4400_0400 Register  Multiply slot    Shift(ShiftKind::Left)),
     // Opcode 12: quotients, signed and unsigned.
-    row!(Idiv     A  0x4800_0000),
-    row!(Idivu    A  0x4800_0002),
+    row!(Idiv     b"idiv"      A  0x4800_0000 Register  Single   slot    Divide { signed: true }),
+    row!(Idivu    b"idivu"     A  0x4800_0002 Register  Single   slot    Divide { signed: false }),
     // Opcode 13: stream accesses whose port is in a register.
-    row!(Getd     Gd 0x4C00_0000),
-    row!(Putd     Pd 0x4C00_0400),
+    row!(Getd     b"getd"      Gd 0x4C00_0000 Register  Load     slot    Get { dynamic: true }),
+    row!(Putd     b"putd"      Pd 0x4C00_0400 Register  None     slot    Put { dynamic: true }),
     // Opcode 18: product with an immediate.
-    row!(Muli     B  0x6000_0000),
+    row!(Muli     b"muli"      B  0x6000_0000 Immediate Multiply slot    Multiply(MulKind::Low)),
     // Opcode 19: shifts by a fixed count.
-    row!(Bsrli    S  0x6400_0000),
-    row!(Bsrai    S  0x6400_0200),
-    row!(Bslli    S  0x6400_0400),
+    row!(Bsrli    b"bsrli"     S  0x6400_0000 Count     Multiply slot    Shift(ShiftKind::Right)),
+    row!(Bsrai    b"bsrai"     S  0x6400_0200 Count     Multiply slot    Shift(ShiftKind::Arith)),
+    row!(Bslli    b"bslli"     S  0x6400_0400 Count     Multiply slot    Shift(ShiftKind::Left)),
     // Opcode 1B: stream accesses of a fixed port.
-    row!(Get      G  0x6C00_0000),
-    row!(Put      P  0x6C00_8000),
+    row!(Get      b"get"       G  0x6C00_0000 Register  Load     slot    Get { dynamic: false }),
+    row!(Put      b"put"       P  0x6C00_8000 Register  None     slot    Put { dynamic: false }),
     // Opcodes 20 to 23: bitwise logic, and pattern comparisons.
-    row!(Or       A  0x8000_0000),
-    row!(Pcmpbf   A  0x8000_0400),
-    row!(And      A  0x8400_0000),
-    row!(Xor      A  0x8800_0000),
-    row!(Pcmpeq   A  0x8800_0400),
-    row!(Andn     A  0x8C00_0000),
-    row!(Pcmpne   A  0x8C00_0400),
+    row!(Or       b"or"        A  0x8000_0000 Register  Single   slot    Logic(LogicKind::Or)),
+    row!(Pcmpbf   b"pcmpbf"    A  0x8000_0400 Register  Single   slot    FirstEqualByte),
+    row!(And      b"and"       A  0x8400_0000 Register  Single   slot    Logic(LogicKind::And)),
+    row!(Xor      b"xor"       A  0x8800_0000 Register  Single   slot    Logic(LogicKind::Xor)),
+    row!(Pcmpeq   b"pcmpeq"    A  0x8800_0400 Register  Single   slot    IsEqual { wanted: true }),
+    row!(Andn     b"andn"      A  0x8C00_0000 Register  Single   slot    Logic(LogicKind::Andn)),
+    row!(Pcmpne   b"pcmpne"    A  0x8C00_0400 Register  Single   slot    IsEqual { wanted: false }),
     // Opcode 24: shifts by one and sign extensions.
-    row!(Sra      U  0x9000_0001),
-    row!(Src      U  0x9000_0021),
-    row!(Srl      U  0x9000_0041),
-    row!(Sext8    U  0x9000_0060),
-    row!(Sext16   U  0x9000_0061),
+    row!(Sra      b"sra"       U  0x9000_0001 Register  Single   slot    ShiftByOne(TopBit::Sign)),
+    row!(Src      b"src"       U  0x9000_0021 Register  Single   slot    ShiftByOne(TopBit::Carry)),
+    row!(Srl      b"srl"       U  0x9000_0041 Register  Single   slot    ShiftByOne(TopBit::Zero)),
+    row!(Sext8    b"sext8"     U  0x9000_0060 Register  Single   slot    ExtendSign(Width::Byte)),
+    row!(Sext16   b"sext16"    U  0x9000_0061 Register  Single   slot    ExtendSign(Width::Half)),
     // Opcode 24: caches.
-    row!(Wdc      Cr 0x9000_0064),
-    row!(WdcFlush Cr 0x9000_0074),
-    row!(WdcClear Cr 0x9000_0066),
-    row!(Wic      Cr 0x9000_0068),
+    row!(Wdc      b"wdc"       Cr 0x9000_0064 Register  None     slot    Cache),
+    row!(WdcFlush b"wdc.flush" Cr 0x9000_0074 Register  None     slot    Cache),
+    row!(WdcClear b"wdc.clear" Cr 0x9000_0066 Register  None     slot    Cache),
+    row!(Wic      b"wic"       Cr 0x9000_0068 Register  None     slot    Cache),
     // Opcode 25: special registers.
-    row!(MfsRpc   M  0x9400_8000),
-    row!(MfsRmsr  M  0x9400_8001),
-    row!(MfsRear  M  0x9400_8003),
-    row!(MfsResr  M  0x9400_8005),
-    row!(MfsRbtr  M  0x9400_800B),
-    row!(MfsRedr  M  0x9400_800D),
-    row!(Mts      T  0x9400_C001),
-    row!(Msrset   E  0x9410_0000),
-    row!(Msrclr   E  0x9411_0000),
+    row!(MfsRpc   b"mfs"       M  0x9400_8000 Register  Single   slot    MoveFrom(Special::Pc)),
+    row!(MfsRmsr  b"mfs"       M  0x9400_8001 Register  Single   slot    MoveFrom(Special::Msr)),
+    row!(MfsRear  b"mfs"       M  0x9400_8003 Register  Single   slot    MoveFrom(Special::Ear)),
+    row!(MfsResr  b"mfs"       M  0x9400_8005 Register  Single   slot    MoveFrom(Special::Esr)),
+    row!(MfsRbtr  b"mfs"       M  0x9400_800B Register  Single   slot    MoveFrom(Special::Btr)),
+    row!(MfsRedr  b"mfs"       M  0x9400_800D Register  Single   slot    MoveFrom(Special::Edr)),
+    row!(Mts      b"mts"       T  0x9400_C001 Register  None     slot    MoveToMsr),
+    row!(Msrset   b"msrset"    E  0x9410_0000 Register  Single   slot    SetMsr),
+    row!(Msrclr   b"msrclr"    E  0x9411_0000 Register  Single   slot    ClearMsr),
     // Opcode 26: branches to or by a register.
-    row!(Br       R  0x9800_0000 no_slot),
-    row!(Bra      R  0x9808_0000 no_slot),
-    row!(Brd      R  0x9810_0000 no_slot),
-    row!(Brad     R  0x9818_0000 no_slot),
-    row!(Brld     Rl 0x9814_0000 no_slot),
-    row!(Brald    Rl 0x981C_0000 no_slot),
-    row!(Brk      Rl 0x980C_0000 no_slot),
+    row!(Br       b"br"        R  0x9800_0000 Register  Single   no_slot Branch { absolute: false, delayed: false, linked: false }),
+    row!(Bra      b"bra"       R  0x9808_0000 Register  Single   no_slot Branch { absolute: true, delayed: false, linked: false }),
+    row!(Brd      b"brd"       R  0x9810_0000 Register  Single   no_slot Branch { absolute: false, delayed: true, linked: false }),
+    row!(Brad     b"brad"      R  0x9818_0000 Register  Single   no_slot Branch { absolute: true, delayed: true, linked: false }),
+    row!(Brld     b"brld"      Rl 0x9814_0000 Register  Single   no_slot Branch { absolute: false, delayed: true, linked: true }),
+    row!(Brald    b"brald"     Rl 0x981C_0000 Register  Single   no_slot Branch { absolute: true, delayed: true, linked: true }),
+    row!(Brk      b"brk"       Rl 0x980C_0000 Register  Single   no_slot Break),
     // Opcode 27: conditional branches by a register.
-    row!(Beq      Cr 0x9C00_0000 no_slot),
-    row!(Beqd     Cr 0x9E00_0000 no_slot),
-    row!(Bne      Cr 0x9C20_0000 no_slot),
-    row!(Bned     Cr 0x9E20_0000 no_slot),
-    row!(Blt      Cr 0x9C40_0000 no_slot),
-    row!(Bltd     Cr 0x9E40_0000 no_slot),
-    row!(Ble      Cr 0x9C60_0000 no_slot),
-    row!(Bled     Cr 0x9E60_0000 no_slot),
-    row!(Bgt      Cr 0x9C80_0000 no_slot),
-    row!(Bgtd     Cr 0x9E80_0000 no_slot),
-    row!(Bge      Cr 0x9CA0_0000 no_slot),
-    row!(Bged     Cr 0x9EA0_0000 no_slot),
+    row!(Beq      b"beq"       Cr 0x9C00_0000 Register  None     no_slot BranchIf { condition: Condition::Equal, delayed: false }),
+    row!(Beqd     b"beqd"      Cr 0x9E00_0000 Register  None     no_slot BranchIf { condition: Condition::Equal, delayed: true }),
+    row!(Bne      b"bne"       Cr 0x9C20_0000 Register  None     no_slot BranchIf { condition: Condition::Unequal, delayed: false }),
+    row!(Bned     b"bned"      Cr 0x9E20_0000 Register  None     no_slot BranchIf { condition: Condition::Unequal, delayed: true }),
+    row!(Blt      b"blt"       Cr 0x9C40_0000 Register  None     no_slot BranchIf { condition: Condition::Less, delayed: false }),
+    row!(Bltd     b"bltd"      Cr 0x9E40_0000 Register  None     no_slot BranchIf { condition: Condition::Less, delayed: true }),
+    row!(Ble      b"ble"       Cr 0x9C60_0000 Register  None     no_slot BranchIf { condition: Condition::LessOrEqual, delayed: false }),
+    row!(Bled     b"bled"      Cr 0x9E60_0000 Register  None     no_slot BranchIf { condition: Condition::LessOrEqual, delayed: true }),
+    row!(Bgt      b"bgt"       Cr 0x9C80_0000 Register  None     no_slot BranchIf { condition: Condition::Greater, delayed: false }),
+    row!(Bgtd     b"bgtd"      Cr 0x9E80_0000 Register  None     no_slot BranchIf { condition: Condition::Greater, delayed: true }),
+    row!(Bge      b"bge"       Cr 0x9CA0_0000 Register  None     no_slot BranchIf { condition: Condition::GreaterOrEqual, delayed: false }),
+    row!(Bged     b"bged"      Cr 0x9EA0_0000 Register  None     no_slot BranchIf { condition: Condition::GreaterOrEqual, delayed: true }),
     // Opcodes 28 to 2B: bitwise logic with an immediate.
-    row!(Ori      B  0xA000_0000),
-    row!(Andi     B  0xA400_0000),
-    row!(Xori     B  0xA800_0000),
-    row!(Andni    B  0xAC00_0000),
+    row!(Ori      b"ori"       B  0xA000_0000 Immediate Single   slot    Logic(LogicKind::Or)),
+    row!(Andi     b"andi"      B  0xA400_0000 Immediate Single   slot    Logic(LogicKind::And)),
+    row!(Xori     b"xori"      B  0xA800_0000 Immediate Single   slot    Logic(LogicKind::Xor)),
+    row!(Andni    b"andni"     B  0xAC00_0000 Immediate Single   slot    Logic(LogicKind::Andn)),
     // Opcode 2C: the upper half of the next immediate.
-    row!(Imm      I  0xB000_0000 no_slot),
+    row!(Imm      b"imm"       I  0xB000_0000 Register  None     no_slot Prefix),
     // Opcode 2D: returns.
-    row!(Rtsd     Ci 0xB600_0000 no_slot),
-    row!(Rtid     Ci 0xB620_0000 no_slot),
-    row!(Rtbd     Ci 0xB640_0000 no_slot),
-    row!(Rted     Ci 0xB680_0000 no_slot),
+    row!(Rtsd     b"rtsd"      Ci 0xB600_0000 Immediate None     no_slot Return(Return::Subroutine)),
+    row!(Rtid     b"rtid"      Ci 0xB620_0000 Immediate None     no_slot Return(Return::Interrupt)),
+    row!(Rtbd     b"rtbd"      Ci 0xB640_0000 Immediate None     no_slot Return(Return::Break)),
+    row!(Rted     b"rted"      Ci 0xB680_0000 Immediate None     no_slot Return(Return::Exception)),
     // Opcode 2E: branches to or by an immediate, and the barrier.
-    row!(Bri      I  0xB800_0000 no_slot),
-    row!(Brai     I  0xB808_0000 no_slot),
-    row!(Brid     I  0xB810_0000 no_slot),
-    row!(Braid    I  0xB818_0000 no_slot),
-    row!(Brlid    Il 0xB814_0000 no_slot),
-    row!(Bralid   Il 0xB81C_0000 no_slot),
-    row!(Brki     Il 0xB80C_0000 no_slot),
-    row!(Mbar     N  0xB802_0004 no_slot),
+    row!(Bri      b"bri"       I  0xB800_0000 Immediate Single   no_slot Branch { absolute: false, delayed: false, linked: false }),
+    row!(Brai     b"brai"      I  0xB808_0000 Immediate Single   no_slot Branch { absolute: true, delayed: false, linked: false }),
+    row!(Brid     b"brid"      I  0xB810_0000 Immediate Single   no_slot Branch { absolute: false, delayed: true, linked: false }),
+    row!(Braid    b"braid"     I  0xB818_0000 Immediate Single   no_slot Branch { absolute: true, delayed: true, linked: false }),
+    row!(Brlid    b"brlid"     Il 0xB814_0000 Immediate Single   no_slot Branch { absolute: false, delayed: true, linked: true }),
+    row!(Bralid   b"bralid"    Il 0xB81C_0000 Immediate Single   no_slot Branch { absolute: true, delayed: true, linked: true }),
+    row!(Brki     b"brki"      Il 0xB80C_0000 Immediate Single   no_slot Break),
+    row!(Mbar     b"mbar"      N  0xB802_0004 Register  None     no_slot Barrier),
     // Opcode 2F: conditional branches by an immediate.
-    row!(Beqi     Ci 0xBC00_0000 no_slot),
-    row!(Beqid    Ci 0xBE00_0000 no_slot),
-    row!(Bnei     Ci 0xBC20_0000 no_slot),
-    row!(Bneid    Ci 0xBE20_0000 no_slot),
-    row!(Blti     Ci 0xBC40_0000 no_slot),
-    row!(Bltid    Ci 0xBE40_0000 no_slot),
-    row!(Blei     Ci 0xBC60_0000 no_slot),
-    row!(Bleid    Ci 0xBE60_0000 no_slot),
-    row!(Bgti     Ci 0xBC80_0000 no_slot),
-    row!(Bgtid    Ci 0xBE80_0000 no_slot),
-    row!(Bgei     Ci 0xBCA0_0000 no_slot),
-    row!(Bgeid    Ci 0xBEA0_0000 no_slot),
+    row!(Beqi     b"beqi"      Ci 0xBC00_0000 Immediate None     no_slot BranchIf { condition: Condition::Equal, delayed: false }),
+    row!(Beqid    b"beqid"     Ci 0xBE00_0000 Immediate None     no_slot BranchIf { condition: Condition::Equal, delayed: true }),
+    row!(Bnei     b"bnei"      Ci 0xBC20_0000 Immediate None     no_slot BranchIf { condition: Condition::Unequal, delayed: false }),
+    row!(Bneid    b"bneid"     Ci 0xBE20_0000 Immediate None     no_slot BranchIf { condition: Condition::Unequal, delayed: true }),
+    row!(Blti     b"blti"      Ci 0xBC40_0000 Immediate None     no_slot BranchIf { condition: Condition::Less, delayed: false }),
+    row!(Bltid    b"bltid"     Ci 0xBE40_0000 Immediate None     no_slot BranchIf { condition: Condition::Less, delayed: true }),
+    row!(Blei     b"blei"      Ci 0xBC60_0000 Immediate None     no_slot BranchIf { condition: Condition::LessOrEqual, delayed: false }),
+    row!(Bleid    b"bleid"     Ci 0xBE60_0000 Immediate None     no_slot BranchIf { condition: Condition::LessOrEqual, delayed: true }),
+    row!(Bgti     b"bgti"      Ci 0xBC80_0000 Immediate None     no_slot BranchIf { condition: Condition::Greater, delayed: false }),
+    row!(Bgtid    b"bgtid"     Ci 0xBE80_0000 Immediate None     no_slot BranchIf { condition: Condition::Greater, delayed: true }),
+    row!(Bgei     b"bgei"      Ci 0xBCA0_0000 Immediate None     no_slot BranchIf { condition: Condition::GreaterOrEqual, delayed: false }),
+    row!(Bgeid    b"bgeid"     Ci 0xBEA0_0000 Immediate None     no_slot BranchIf { condition: Condition::GreaterOrEqual, delayed: true }),
     // Opcodes 30 to 36: loads and stores.
-    row!(Lbu      A  0xC000_0000),
-    row!(Lhu      A  0xC400_0000),
-    row!(Lw       A  0xC800_0000),
-    row!(Sb       A  0xD000_0000),
-    row!(Sh       A  0xD400_0000),
-    row!(Sw       A  0xD800_0000),
+    row!(Lbu      b"lbu"       A  0xC000_0000 Register  Load     slot    Load(Size::Byte)),
+    row!(Lhu      b"lhu"       A  0xC400_0000 Register  Load     slot    Load(Size::Half)),
+    row!(Lw       b"lw"        A  0xC800_0000 Register  Load     slot    Load(Size::Word)),
+    row!(Sb       b"sb"        A  0xD000_0000 Register  None     slot    Store(Size::Byte)),
+    row!(Sh       b"sh"        A  0xD400_0000 Register  None     slot    Store(Size::Half)),
+    row!(Sw       b"sw"        A  0xD800_0000 Register  None     slot    Store(Size::Word)),
     // Opcodes 38 to 3E: the same with an immediate.
-    row!(Lbui     B  0xE000_0000),
-    row!(Lhui     B  0xE400_0000),
-    row!(Lwi      B  0xE800_0000),
-    row!(Sbi      B  0xF000_0000),
-    row!(Shi      B  0xF400_0000),
-    row!(Swi      B  0xF800_0000),
+    row!(Lbui     b"lbui"      B  0xE000_0000 Immediate Load     slot    Load(Size::Byte)),
+    row!(Lhui     b"lhui"      B  0xE400_0000 Immediate Load     slot    Load(Size::Half)),
+    row!(Lwi      b"lwi"       B  0xE800_0000 Immediate Load     slot    Load(Size::Word)),
+    row!(Sbi      b"sbi"       B  0xF000_0000 Immediate None     slot    Store(Size::Byte)),
+    row!(Shi      b"shi"       B  0xF400_0000 Immediate None     slot    Store(Size::Half)),
+    row!(Swi      b"swi"       B  0xF800_0000 Immediate None     slot    Store(Size::Word)),
 ];
 
 /// The places of the named instructions in the table, and after them its end, for opcode 3F and past it.

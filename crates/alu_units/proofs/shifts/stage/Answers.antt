@@ -1,6 +1,6 @@
 use Rattle.std.proofs.Common.{◌≡◌, true, false, arith}
 use Rattle.std.proofs.lemmas.Bool.{le-leb, lt-leb}
-use Rattle.alu_units.specs.declared.kinds.ShiftKind.TheVariants.{Left, Right, Arith}
+use Rattle.op_table.specs.declared.kinds.ShiftKind.TheVariants.{Left, Right, Arith}
 use Rattle.alu_units.proofs.StagesLemmas.{moved_is}
 use Rattle.mb_word.specs.Word.{is_negative}
 use Rattle.alu_units.proofs.shifts.stage.Goals as goal
