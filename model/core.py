@@ -1,68 +1,11 @@
 """A MicroBlaze core, plain and slow, from UG984: what the proved program is compared with.
 
-It knows nothing of the program. Each word is looked up in the whole table of rows; each effect is written as the guide
-writes it. What a core stands in (its links, breaks and bus) is an object like `board.Ports`.
+It knows nothing of the program. Each word is looked up in the whole table of `instructions`. What a core stands in (its
+links, breaks and bus) is an object like `board.Ports`.
 """
 import functools
 
-WORD = 0xFFFF_FFFF
-IE, C, BIP, FSL, DZO, EE, EIP = 2, 4, 8, 0x10, 0x40, 0x100, 0x200
-WRITABLE = 0x3FE
-
-MASKS = {
-    "A": 0xFC0007FF, "U": 0xFC00FFFF, "B": 0xFC000000, "S": 0xFC00FFE0, "R": 0xFFFF07FF, "RL": 0xFC1F07FF,
-    "I": 0xFFFF0000, "IL": 0xFC1F0000, "CR": 0xFFE007FF, "CI": 0xFFE00000, "M": 0xFC1FFFFF, "T": 0xFFE0FFFF,
-    "E": 0xFC1F8000, "G": 0xFC1F83F0, "P": 0xFFE087F0, "GD": 0xFC1F041F, "PD": 0xFFE0043F,
-}
-IMMEDIATE = {"B", "I", "IL", "CI"}
-
-
-def rows():
-    """Name, form and bits of each row."""
-    table = []
-
-    def add(form, bits, *names):
-        for name, value in zip(names, bits):
-            table.append((name, form, value))
-
-    sums = "add rsub addc rsubc addk rsubk addkc rsubkc".split()
-    add("A", [n << 26 for n in range(8)], *sums)
-    add("B", [(8 + n) << 26 for n in range(8)], *(name[:3] + "i" + name[3:] if name[0] == "a" else name[:4] + "i" + name[4:] for name in sums))
-    add("A", [0x14000001, 0x14000003], "cmp", "cmpu")
-    add("A", [0x40000000 + n for n in range(4)], "mul", "mulh", "mulhsu", "mulhu")
-    add("A", [0x44000000, 0x44000200, 0x44000400], "bsrl", "bsra", "bsll")
-    add("A", [0x48000000, 0x48000002], "idiv", "idivu")
-    add("GD", [0x4C000000], "getd")
-    add("PD", [0x4C000400], "putd")
-    add("B", [0x60000000], "muli")
-    add("S", [0x64000000, 0x64000200, 0x64000400], "bsrli", "bsrai", "bslli")
-    add("G", [0x6C000000], "get")
-    add("P", [0x6C008000], "put")
-    add("A", [n << 26 for n in range(0x20, 0x24)], "or", "and", "xor", "andn")
-    add("A", [0x80000400, 0x88000400, 0x8C000400], "pcmpbf", "pcmpeq", "pcmpne")
-    add("U", [0x90000001, 0x90000021, 0x90000041, 0x90000060, 0x90000061], "sra", "src", "srl", "sext8", "sext16")
-    add("CR", [0x90000064, 0x90000074, 0x90000066, 0x90000068], "wdc", "wdc.flush", "wdc.clear", "wic")
-    add("M", [0x94008000 + n for n in (0, 1, 3, 5, 0xB, 0xD)], *("mfs " + name for name in "rpc rmsr rear resr rbtr redr".split()))
-    add("T", [0x9400C001], "mts rmsr")
-    add("E", [0x94100000, 0x94110000], "msrset", "msrclr")
-    for opcode, form, linked, suffix in ((0x26, "R", "RL", ""), (0x2E, "I", "IL", "i")):
-        add(form, [(opcode << 26) + (n << 16) for n in (0, 8, 16, 24)], *(name + suffix + slot for name, slot in (("br", ""), ("bra", ""), ("br", "d"), ("bra", "d"))))
-        add(linked, [(opcode << 26) + (n << 16) for n in (0x14, 0x1C, 0xC)], "brl" + suffix + "d", "bral" + suffix + "d", "brk" + suffix)
-    add("M", [0xB8020004], "mbar")
-    for opcode, form, suffix in ((0x27, "CR", ""), (0x2F, "CI", "i")):
-        for slot, letter in ((0, ""), (16, "d")):
-            add(form, [(opcode << 26) + ((n + slot) << 21) for n in range(6)], *("b" + when + suffix + letter for when in "eq ne lt le gt ge".split()))
-    add("B", [n << 26 for n in range(0x28, 0x2C)], "ori", "andi", "xori", "andni")
-    add("I", [0xB0000000], "imm")
-    add("CI", [(0x2D << 26) + (n << 21) for n in (0x10, 0x11, 0x12, 0x14)], "rtsd", "rtid", "rtbd", "rted")
-    names = "lbu lhu lw sb sh sw".split()
-    add("A", [n << 26 for n in (0x30, 0x31, 0x32, 0x34, 0x35, 0x36)], *names)
-    add("B", [n << 26 for n in (0x38, 0x39, 0x3A, 0x3C, 0x3D, 0x3E)], *(name + "i" for name in names))
-    assert len(table) == 120
-    return table
-
-
-ROWS = rows()
+from instructions import BIP, C, DZO, EE, EFFECTS, EIP, FSL, IE, IMMEDIATE, MASKS, ROWS, WORD, Operands, signed
 
 
 @functools.lru_cache(maxsize=None)
@@ -71,11 +14,6 @@ def decode(word):
     found = [(name, form) for name, form, bits in ROWS if word & MASKS[form] == bits]
     assert len(found) <= 1
     return found[0] if found else (None, None)
-
-
-def signed(word, bits=32):
-    word &= (1 << bits) - 1
-    return word - (1 << bits) if word >> (bits - 1) else word
 
 
 NOT_IN_A_SLOT = {"imm", "mbar", "rtsd", "rtid", "rtbd", "rted"}
@@ -152,7 +90,7 @@ class Core:
             b = low & 31
         else:
             b = self.r[rb]
-        self.effect(name, word, rd, a, b, d, low, ports)
+        EFFECTS[name](self, Operands(rd, a, b, d, word), ports)
 
     def word_here(self):
         if self.pc % 4 or self.pc >= len(self.memory):
@@ -270,99 +208,20 @@ class Core:
     def port(self, word, name):
         return self.r[word >> 11 & 31] & 15 if name.endswith("d") else word & 15
 
-    # the effects
+    # what effects are made of
 
-    def effect(self, name, word, rd, a, b, d, low, ports):
-        here = self.pc
-        base = name[:-1] if name.endswith("i") and name not in ("muli",) else name
-        if name.startswith(("add", "rsub")):
-            plain = name.replace("i", "")
-            letters = plain[3:] if plain[0] == "a" else plain[4:]
-            first = a if plain[0] == "a" else ~a & WORD
-            carry = (self.msr >> 2 & 1) if "c" in letters else (0 if plain[0] == "a" else 1)
-            total = first + b + carry
-            self.advance()
-            if "k" not in letters:
-                self.put_flag(C, total > WORD)
-            self.put_register(rd, total)
-        elif name in ("cmp", "cmpu"):
-            greater = signed(a) > signed(b) if name == "cmp" else a > b
-            self.result(rd, (b - a) & 0x7FFFFFFF | greater << 31)
-        elif name.startswith("mul"):
-            x = signed(a) if name in ("mulh", "mulhsu") else a
-            y = signed(b) if name == "mulh" else b
-            self.result(rd, x * y if name in ("mul", "muli") else x * y >> 32)
-        elif name.startswith("bs"):
-            n = b & 31
-            self.result(rd, {"bsrl": a >> n, "bsra": signed(a) >> n, "bsll": a << n}[name[:4]])
-        elif name.startswith("idiv"):
-            self.divide(name == "idiv", rd, a, b)
-        elif base in ("or", "and", "xor", "andn"):
-            self.result(rd, {"or": a | b, "and": a & b, "xor": a ^ b, "andn": a & ~b}[base])
-        elif name == "pcmpbf":
-            same = [k + 1 for k in range(4) if (a >> 24 - 8 * k & 255) == (b >> 24 - 8 * k & 255)]
-            self.result(rd, same[0] if same else 0)
-        elif name in ("pcmpeq", "pcmpne"):
-            self.result(rd, (a == b) == (name == "pcmpeq"))
-        elif name in ("sra", "src", "srl"):
-            top = {"sra": a >> 31, "src": self.msr >> 2 & 1, "srl": 0}[name]
-            self.advance()
-            self.put_flag(C, a & 1)
-            self.put_register(rd, top << 31 | a >> 1)
-        elif name in ("sext8", "sext16"):
-            self.result(rd, signed(a, int(name[4:])))
-        elif name.startswith("w"):
-            self.advance()
-        elif name.startswith("mfs"):
-            status = self.msr | (0x80000000 if self.msr & C else 0)
-            self.result(rd, {"rpc": here, "rmsr": status, "rear": self.ear, "resr": self.esr, "rbtr": self.btr, "redr": self.edr}[name[4:]])
-        elif name == "mts rmsr":
-            self.msr = a & WRITABLE
-            self.advance()
-        elif name in ("msrset", "msrclr"):
-            old = self.msr | (0x80000000 if self.msr & C else 0)
-            bits = low & 0x7FFF & WRITABLE
-            self.msr = self.msr | bits if name == "msrset" else self.msr & ~bits
-            self.result(rd, old)
-        elif name == "imm":
-            self.advance()
-            self.prefix = low
-        elif name == "mbar":
-            self.advance()
-            self.asleep = rd in (8, 16, 24)
-            if self.asleep:
-                self.told.append("slept")
-        elif name.startswith("rt"):
-            self.branch((a + b) & WORD, True)
-            if name == "rtid":
-                self.put_flag(IE, True)
-            elif name == "rtbd":
-                self.put_flag(BIP, False)
-            elif name == "rted":
-                self.msr = (self.msr | EE) & ~EIP
-                self.esr = 0
-        elif name.startswith("brk"):
-            self.branch(b, False)
-            self.put_flag(BIP, True)
-            self.put_register(rd, here)
-        elif name.startswith("br"):
-            letters = name[2:].replace("i", "")
-            self.branch(b if "a" in letters else (here + b) & WORD, "d" in letters)
-            if "l" in letters:
-                self.put_register(rd, here)
-        elif name.startswith("b"):
-            x = signed(a)
-            taken = {"eq": x == 0, "ne": x != 0, "lt": x < 0, "le": x <= 0, "gt": x > 0, "ge": x >= 0}[name[1:3]]
-            if taken:
-                self.branch((here + b) & WORD, name.endswith("d"))
-            elif name.endswith("d"):
-                self.branch((here + 8) & WORD, True)
-            else:
-                self.advance()
-        elif name[0] in "ls":
-            self.access(name.removesuffix("i"), rd, (a + b) & WORD, d, ports)
-        else:
-            self.use_link(name, word, rd, a, ports)
+    def carry(self):
+        return self.msr >> 2 & 1
+
+    def status(self):
+        """MSR as it reads: CC is a copy of C."""
+        return self.msr | (0x80000000 if self.msr & C else 0)
+
+    def put_sum(self, rd, total, keep):
+        self.advance()
+        if not keep:
+            self.put_flag(C, total > WORD)
+        self.put_register(rd, total)
 
     def result(self, rd, value):
         self.advance()
@@ -392,9 +251,7 @@ class Core:
             self.result(rd, value)
             self.put_flag(DZO, True)
 
-    def access(self, name, rd, addr, value, ports):
-        store = name[0] == "s"
-        size = {"b": 1, "h": 2, "w": 4}[name[1]]
+    def access(self, store, size, rd, addr, value, ports):
         if addr % size:
             if self.exceptions_on():
                 self.raise_fault(1 + (0x800 if size == 4 else 0) + (0x400 if store else 0) + (rd << 5), addr)
