@@ -1,5 +1,6 @@
 pub mod Names
 pub mod Outside
+pub mod Streams
 pub mod MemFiles
 pub mod Sure
 pub mod Planned

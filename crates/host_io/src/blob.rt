@@ -1,4 +1,4 @@
-// Lists of bytes, and lists of such lists.
+//! Lists of bytes, and lists of such lists.
 ghost use Rattle.std.specs.Prelude.{◌≡◌, ◌↔◌, ◌<◌, List, ℕ, IsSome, IfSome, length, slice_get};
 
 use std::marker::Model;

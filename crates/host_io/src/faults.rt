@@ -1,9 +1,12 @@
-// How calls of the outside fail, and how faults are counted.
+//! How calls of the outside fail, and how faults are counted.
 ghost use Rattle.std.specs.Prelude.{◌≡◌, IsTrue, None};
 ghost use Rattle.host_io.specs.Names.{is_file_name};
+ghost use Rattle.host_io.specs.declared.faults.LoadFault.TheVariants.{Failed, NoMemory};
+ghost use Rattle.host_io.specs.declared.faults.StoreFault.TheVariants.{NoMemory as NoMemoryToStore};
 ghost use Rattle.host_io.specs.Outside.{CountsLoadFault, CountsWriteFault};
 
 use crate::FileName;
+use std::alloc::AllocError;
 
 /// How a load fails.
 #[derive(Clone, Copy, Debug, PartialEq, Eq)]
@@ -28,6 +31,30 @@ pub enum StoreFault {
 /// A read that failed. The source has counted a fault.
 #[derive(Clone, Copy, Debug, PartialEq, Eq)]
 pub struct ReadFailed;
+
+impl From<AllocError> for LoadFault {
+    ghost from_gives = { λ _ fault. fault ≡ NoMemory };
+
+    fn from(_error: AllocError) -> Self {
+        LoadFault::NoMemory
+    }
+}
+
+impl From<ReadFailed> for LoadFault {
+    ghost from_gives = { λ _ fault. fault ≡ Failed };
+
+    fn from(_error: ReadFailed) -> Self {
+        LoadFault::Failed
+    }
+}
+
+impl From<AllocError> for StoreFault {
+    ghost from_gives = { λ _ fault. fault ≡ NoMemoryToStore };
+
+    fn from(_error: AllocError) -> Self {
+        StoreFault::NoMemory
+    }
+}
 
 /// The faults of a shelf. The counts never fall, and stay where they reach the end of 64 bits.
 #[derive(Debug, Drop)]

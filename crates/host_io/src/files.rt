@@ -1,4 +1,4 @@
-// A list of files in memory.
+//! A list of files in memory.
 ghost use Rattle.std.specs.Prelude.{◌≡◌, OnOk, OnErr, IfNone, IfSome, IsTrue, option_copied};
 ghost use Rattle.host_io.specs.Names.{is_file_name};
 ghost use Rattle.host_io.specs.MemFiles.{IsFirst, IsAbsent, lookup};
@@ -65,8 +65,6 @@ pub fn extend_file(files: &mut Vec<MemFile>, name: &str, bytes: &[u8]) -> Result
         return Err(StoreFault::Failed);
     };
     let file = &mut files[place];
-    match file.bytes.extend_from_slice(bytes) {
-        Ok(()) => Ok(()),
-        Err(_) => Err(StoreFault::NoMemory),
-    }
+    file.bytes.extend_from_slice(bytes)?;
+    Ok(())
 }

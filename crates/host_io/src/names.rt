@@ -1,4 +1,4 @@
-// Names, kept in fixed room.
+//! Names, kept in fixed room.
 ghost use Rattle.std.specs.Prelude.{◌≡◌, ◌↔◌, ◌≤◌, List, ℕ, IsTrue, IfSome, is_some, length};
 ghost use Rattle.std.specs.List.{list_all};
 ghost use Rattle.host_io.specs.Names.{is_name, is_file_name, is_file_byte, begins_well};

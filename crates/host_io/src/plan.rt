@@ -1,11 +1,13 @@
-// Which calls of an object in memory are to fail.
+//! Which calls of an object in memory are to fail.
 ghost use Rattle.std.specs.Prelude.{◌≡◌};
 ghost use Rattle.host_io.specs.Planned.{after_call, planned};
 
-/// A call that is to fail: its number, from 0, and how many bytes it moves before.
+/// A call that is to fail.
 #[derive(Clone, Copy, Debug, PartialEq, Eq)]
 pub struct Failing {
+    /// The number of the call, from 0, among all calls of the object.
     pub call: u64,
+    /// How many bytes an `append` or a `write_all` moves before it fails.
     pub moved: usize,
 }
 

@@ -1,12 +1,14 @@
-// Files and streams in memory that fail where they are told to.
-ghost use Rattle.std.specs.Prelude.{◌≡◌, ◌↔◌, IfSome, IsErr, IsNone, IsSome, IsTrue, None, Some, option_copied};
+//! Files and streams in memory that fail where they are told to. A call that is to fail moves exactly the planned number
+//! of bytes first, or all where there are fewer; a `load`, a `start` and a `read` that are to fail change nothing.
+ghost use Rattle.std.specs.Prelude.{◌≡◌, ◌≢◌, ◌↔◌, IfSome, IsErr, IsNone, IsSome, IsTrue, None, OnErr, Some, option_copied};
 ghost use Rattle.host_io.specs.Names.{is_file_name};
 ghost use Rattle.host_io.specs.MemFiles.{lookup};
-ghost use Rattle.host_io.specs.Outside.{Adds, Appends, IsMissing, Loads, Reads, Starts};
-ghost use Rattle.host_io.specs.Planned.{after_call, mem_shelf, mem_sink, mem_source, planned, shelf_plan, sink_plan, source_plan};
+ghost use Rattle.host_io.specs.Outside.{Adds, Appends, IsMissing, Loads, Reads, SameFiles, Starts};
+ghost use Rattle.host_io.specs.Planned.{AddsThenFails, AppendsThenFails, after_call, mem_files, mem_shelf, mem_sink, mem_source, planned, shelf_plan, sink_plan, source_plan};
 
 use crate::files::{MemFile, extend_file};
 use crate::plan::{Failing, Plan};
+use crate::texts::first_of;
 use crate::{
     Blob, LoadFault, ReadFailed, Shelf, Sink, Source, StoreFault, SureShelf, SureSink, SureSource,
 };
@@ -65,6 +67,7 @@ impl Shelf for MemShelf {
         requires { IsTrue (is_file_name name.now) }
         ensures answer { Starts (mem_shelf self.old) (mem_shelf self.new) name.now result }
         ensures planned { (result ≡ Err StoreFault.Failed) ↔ IsSome (planned (shelf_plan self.old)) }
+        ensures kept { OnErr result (SameFiles (mem_files self.old) (mem_files self.new)) }
         ensures counted { shelf_plan self.new ≡ after_call (shelf_plan self.old) }
     {
         if self.plan.next().is_some() {
@@ -77,18 +80,22 @@ impl Shelf for MemShelf {
     fn append(&mut self, alloc: Global, name: &str, bytes: &[u8]) -> Result<(), StoreFault>
         requires { IsTrue (is_file_name name.now) }
         ensures answer { Appends (mem_shelf self.old) (mem_shelf self.new) name.now bytes.now result }
-        ensures planned { IsSome (planned (shelf_plan self.old)) → result ≡ Err StoreFault.Failed }
+        ensures planned { IfSome (planned (shelf_plan self.old)) (λ moved.
+            AppendsThenFails moved name.now bytes.now (mem_files self.old) (mem_files self.new) result) }
         ensures sure { IsNone (planned (shelf_plan self.old)) → result ≡ Err StoreFault.Failed
             → IsMissing (mem_shelf self.old) name.now }
         ensures counted { shelf_plan self.new ≡ after_call (shelf_plan self.old) }
     {
-        if let Some(moved) = self.plan.next() {
-            let moved = moved.min(bytes.len());
-            let _ = extend_file(&mut self.shelf.files, name, &bytes[..moved]);
-            self.shelf.faults.count_write(name);
-            return Err(StoreFault::Failed);
+        let Some(moved) = self.plan.next() else {
+            return self.shelf.append(alloc, name, bytes);
+        };
+        match extend_file(&mut self.shelf.files, name, first_of(bytes, moved)) {
+            Err(StoreFault::NoMemory) => Err(StoreFault::NoMemory),
+            _ => {
+                self.shelf.faults.count_write(name);
+                Err(StoreFault::Failed)
+            }
         }
-        self.shelf.append(alloc, name, bytes)
     }
 }
 
@@ -120,6 +127,7 @@ impl Source for MemSource {
     fn read(&mut self, buffer: &mut [u8]) -> Result<usize, ReadFailed>
         ensures answer { Reads (mem_source self.old) (mem_source self.new) buffer.new result }
         ensures planned { IsErr result ↔ IsSome (planned (source_plan self.old)) }
+        ensures kept { OnErr result (buffer.new ≡ buffer.old) }
         ensures counted { source_plan self.new ≡ after_call (source_plan self.old) }
     {
         if self.plan.next().is_some() {
@@ -164,15 +172,16 @@ impl Sink for MemSink {
 
     fn write_all(&mut self, alloc: Global, bytes: &[u8]) -> Result<(), StoreFault>
         ensures answer { Adds (mem_sink self.old) (mem_sink self.new) bytes.now result }
-        ensures planned { (result ≡ Err StoreFault.Failed) ↔ IsSome (planned (sink_plan self.old)) }
+        ensures planned { IfSome (planned (sink_plan self.old)) (λ moved.
+            AddsThenFails moved bytes.now (mem_sink self.old).written (mem_sink self.new).written result) }
+        ensures sure { IsNone (planned (sink_plan self.old)) → result ≢ Err StoreFault.Failed }
         ensures counted { sink_plan self.new ≡ after_call (sink_plan self.old) }
     {
-        if let Some(moved) = self.plan.next() {
-            let moved = moved.min(bytes.len());
-            let _ = self.sink.write_all(alloc, &bytes[..moved]);
-            self.faults = self.faults.saturating_add(1);
-            return Err(StoreFault::Failed);
-        }
-        self.sink.write_all(alloc, bytes)
+        let Some(moved) = self.plan.next() else {
+            return self.sink.write_all(alloc, bytes);
+        };
+        self.sink.write_all(alloc, first_of(bytes, moved))?;
+        self.faults = self.faults.saturating_add(1);
+        Err(StoreFault::Failed)
     }
 }

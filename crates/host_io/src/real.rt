@@ -1,19 +1,23 @@
-// The real files and streams. They tell no content, and count their faults.
-ghost use Rattle.std.specs.Prelude.{◌≡◌, ◌≤◌, IfOk, None, length};
-ghost use Rattle.host_io.specs.Real.{dir_shelf, std_sink, std_source};
+//! The real files and streams. They count their faults; what the operating system does is trusted.
+ghost use Rattle.std.specs.Prelude.{◌≡◌, ◌≤◌, IfOk, None, OnErr, OnOk, length};
+ghost use Rattle.std.specs.Io.KnownBytes.{Appends};
+ghost use Rattle.host_io.specs.Outside.{Adds};
+ghost use Rattle.host_io.specs.Real.{dir_shelf, held, std_sink, std_source};
+ghost use Rattle.host_io.specs.Streams.{AppendsPrefix};
 
 use crate::faults::ShelfFaults;
+use crate::streams::{read_some, read_whole, write_whole};
 use crate::{Blob, LoadFault, ReadFailed, Shelf, Sink, Source, StoreFault};
 use std::alloc::Global;
 use std::fs::{self, OpenFile, OpenOptions};
-use std::io::{self, ErrorKind, Read, Write};
+use std::io::{self, Read, Write};
 use std::rt::Files;
 
 /// The files of the folder that the program runs in.
 #[derive(Drop)]
 pub struct DirShelf<'a, R: Files> {
     files: &'a R,
-    faults: ShelfFaults,
+    pub(crate) faults: ShelfFaults,
 }
 
 impl<'a, R: Files> DirShelf<'a, R> {
@@ -63,7 +67,7 @@ impl<'a, R: Files> Shelf for DirShelf<'a, R> {
     }
 }
 
-/// The bytes of a real file of at most `limit` bytes. Of a longer one it reads one byte more than that.
+/// The bytes of a real file of at most `limit` bytes.
 fn read_file<R: Files>(
     files: &R,
     alloc: Global,
@@ -73,21 +77,13 @@ fn read_file<R: Files>(
     ensures { IfOk result (λ blob. length blob ≤ limit) }
 {
     let file = fs::open(files, name).map_err(|_| LoadFault::Failed)?;
-    let mut bytes = Vec::new(alloc);
-    let most = (limit as u64).saturating_add(1);
-    match file.take(most).read_to_end(&mut bytes) {
-        Ok(_) if bytes.len() > limit => Err(LoadFault::TooLong),
-        Ok(_) => Ok(Blob::from_vec(bytes)),
-        Err(error) if error.kind() == ErrorKind::OutOfMemory => Err(LoadFault::NoMemory),
-        Err(_) => Err(LoadFault::Failed),
-    }
+    read_whole(&mut StdSource::new(file), alloc, limit)
 }
 
+/// Adds bytes at the end of a real file that is there.
 fn append_to_file<R: Files>(files: &R, name: &str, bytes: &[u8]) -> io::Result<()> {
-    OpenOptions::new()
-        .append(true)
-        .open(files, name)?
-        .write_all(bytes)
+    let mut file = OpenOptions::new().append(true).open(files, name)?;
+    write_whole(&mut file, bytes)
 }
 
 /// A reader as a source.
@@ -100,17 +96,17 @@ pub struct StdSource<R: Read + Drop> {
 impl<R: Read + Drop> StdSource<R> {
     /// What the reader gives from here on, with no fault counted.
     pub fn new(reader: R) -> Self
-        ensures { std_source result ≡ record { left = None; faults = 0 } }
+        ensures { std_source R.remaining result ≡ record { left = R.remaining reader; faults = 0 } }
     {
         StdSource { reader, faults: 0 }
     }
 }
 
 impl<R: Read + Drop> Source for StdSource<R> {
-    ghost state = { std_source };
+    ghost state = { std_source R.remaining };
 
     fn read(&mut self, buffer: &mut [u8]) -> Result<usize, ReadFailed> {
-        match self.reader.read(buffer) {
+        match read_some(&mut self.reader, buffer) {
             Ok(count) => Ok(count),
             Err(_) => {
                 self.faults = self.faults.saturating_add(1);
@@ -130,7 +126,8 @@ pub struct StdSink<W: Write + Drop> {
 impl<W: Write + Drop> StdSink<W> {
     /// The writer as it is, with no fault counted.
     pub fn new(writer: W) -> Self
-        ensures { std_sink result ≡ record { written = None; faults = 0 } }
+        ensures state { std_sink result ≡ record { written = None; faults = 0 } }
+        ensures held { held W.contents result ≡ W.contents writer }
     {
         StdSink { writer, faults: 0 }
     }
@@ -139,8 +136,13 @@ impl<W: Write + Drop> StdSink<W> {
 impl<W: Write + Drop> Sink for StdSink<W> {
     ghost state = { std_sink };
 
-    fn write_all(&mut self, _alloc: Global, bytes: &[u8]) -> Result<(), StoreFault> {
-        match self.writer.write_all(bytes) {
+    /// Adds all of the bytes to what the writer holds; after a refusal a prefix of them was added.
+    fn write_all(&mut self, _alloc: Global, bytes: &[u8]) -> Result<(), StoreFault>
+        ensures answer { Adds (std_sink self.old) (std_sink self.new) bytes.now result }
+        ensures whole { OnOk result (Appends (held W.contents self.old) (held W.contents self.new) bytes.now) }
+        ensures part { OnErr result (AppendsPrefix (held W.contents self.old) (held W.contents self.new) bytes.now) }
+    {
+        match write_whole(&mut self.writer, bytes) {
             Ok(()) => Ok(()),
             Err(_) => {
                 self.faults = self.faults.saturating_add(1);

@@ -1,9 +1,10 @@
-// Files and streams in memory that do not fail.
-ghost use Rattle.std.specs.Prelude.{◌≡◌, ◌≢◌, IfSome, IsOk, IsTrue, None, Some, option_copied};
+//! Files and streams in memory that do not fail: for callers that plan no faults, and the inside of those that fail by a
+//! plan (`MemShelf`, `MemSource`, `MemSink`).
+ghost use Rattle.std.specs.Prelude.{◌≡◌, ◌≢◌, IfSome, IsOk, IsTrue, None, OnErr, Some, option_copied};
 ghost use Rattle.host_io.specs.Names.{is_file_name};
 ghost use Rattle.host_io.specs.MemFiles.{lookup};
-ghost use Rattle.host_io.specs.Outside.{Adds, Appends, IsMissing, Loads, Reads, Starts};
-ghost use Rattle.host_io.specs.Sure.{sure_shelf, sure_sink, sure_source};
+ghost use Rattle.host_io.specs.Outside.{Adds, Appends, IsMissing, Loads, Reads, SameFiles, Starts};
+ghost use Rattle.host_io.specs.Sure.{sure_files, sure_shelf, sure_sink, sure_source};
 
 use crate::faults::ShelfFaults;
 use crate::files::{MemFile, content_of, empty_file, extend_file};
@@ -56,21 +57,17 @@ impl Shelf for SureShelf {
         if bytes.len() > limit {
             return Err(LoadFault::TooLong);
         }
-        match Vec::from_slice(alloc, bytes) {
-            Ok(bytes) => Ok(Blob::from_vec(bytes)),
-            Err(_) => Err(LoadFault::NoMemory),
-        }
+        Ok(Blob::from_vec(Vec::from_slice(alloc, bytes)?))
     }
 
     fn start(&mut self, alloc: Global, name: &str) -> Result<(), StoreFault>
         requires { IsTrue (is_file_name name.now) }
         ensures answer { Starts (sure_shelf self.old) (sure_shelf self.new) name.now result }
         ensures sure { result ≢ Err StoreFault.Failed }
+        ensures kept { OnErr result (SameFiles (sure_files self.old) (sure_files self.new)) }
     {
-        match empty_file(&mut self.files, alloc, name) {
-            Ok(()) => Ok(()),
-            Err(_) => Err(StoreFault::NoMemory),
-        }
+        empty_file(&mut self.files, alloc, name)?;
+        Ok(())
     }
 
     fn append(&mut self, _alloc: Global, name: &str, bytes: &[u8]) -> Result<(), StoreFault>
@@ -78,14 +75,11 @@ impl Shelf for SureShelf {
         ensures answer { Appends (sure_shelf self.old) (sure_shelf self.new) name.now bytes.now result }
         ensures sure { result ≡ Err StoreFault.Failed → IsMissing (sure_shelf self.old) name.now }
     {
-        match extend_file(&mut self.files, name, bytes) {
-            Ok(()) => Ok(()),
-            Err(StoreFault::Failed) => {
-                self.faults.count_write(name);
-                Err(StoreFault::Failed)
-            }
-            Err(StoreFault::NoMemory) => Err(StoreFault::NoMemory),
+        let extended = extend_file(&mut self.files, name, bytes);
+        if extended == Err(StoreFault::Failed) {
+            self.faults.count_write(name);
         }
+        extended
     }
 }
 
@@ -148,10 +142,9 @@ impl Sink for SureSink {
     fn write_all(&mut self, _alloc: Global, bytes: &[u8]) -> Result<(), StoreFault>
         ensures answer { Adds (sure_sink self.old) (sure_sink self.new) bytes.now result }
         ensures sure { result ≢ Err StoreFault.Failed }
+        ensures kept { OnErr result ((sure_sink self.new).written ≡ (sure_sink self.old).written) }
     {
-        match self.written.extend_from_slice(bytes) {
-            Ok(()) => Ok(()),
-            Err(_) => Err(StoreFault::NoMemory),
-        }
+        self.written.extend_from_slice(bytes)?;
+        Ok(())
     }
 }

@@ -1,8 +1,8 @@
-// What no clause says: that calls can succeed, what a planned fault moves first, and the real files and streams.
+// What no clause says: that calls can succeed, and what the operating system does with real files.
 use crate::{
-    DirShelf, Failing, FileName, LoadFault, MemFile, MemShelf, MemSink, MemSource, Name, Place,
-    ReadFailed, Shelf, Sink, Source, StdSink, StdSource, StoreFault, SureShelf, SureSink,
-    SureSource, is_file_name,
+    Blob, DirShelf, Failing, FileName, LoadFault, MemFile, MemShelf, MemSink, MemSource, Name,
+    Place, ReadFailed, Shelf, Sink, Source, StdSink, StdSource, StoreFault, SureShelf, SureSink,
+    SureSource, is_file_name, read_whole,
 };
 use std::alloc::Global;
 use std::fs;
@@ -113,28 +113,86 @@ fn streams_that_are_sure_move_bytes(rt: HostRuntime) -> Result<(), Fail> {
     Ok(())
 }
 
+/// A call on the real files.
+#[derive(Drop)]
+enum Call<'a> {
+    Start,
+    Append(&'a [u8]),
+    Load(usize),
+}
+
+/// What a call on the real files answers: the bytes of a load, and none of the others.
+fn answer(
+    shelf: &mut DirShelf<HostRuntime>,
+    alloc: Global,
+    name: &str,
+    call: &Call,
+) -> Result<Blob, LoadFault> {
+    let done = match call {
+        Call::Start => shelf.start(alloc, name),
+        Call::Append(bytes) => shelf.append(alloc, name, bytes),
+        Call::Load(limit) => return shelf.load(alloc, name, *limit),
+    };
+    match done {
+        Ok(()) => Ok(Blob::from_vec(Vec::new(alloc))),
+        Err(StoreFault::Failed) => Err(LoadFault::Failed),
+        Err(StoreFault::NoMemory) => Err(LoadFault::NoMemory),
+    }
+}
+
 #[test]
 fn real_files_are_read_and_written(rt: HostRuntime) -> Result<(), Fail> {
     let alloc = rt.alloc();
-    let name = "host_io_test.bin";
     let mut shelf = DirShelf::new(&rt);
-    assert_eq!(rt; shelf.append(alloc, name, b"x"), Err(StoreFault::Failed));
-    assert_eq!(rt; shelf.load(alloc, name, 9).err(), Some(LoadFault::Failed));
-    assert_eq!(rt; shelf.start(alloc, name), Ok(()));
-    assert_eq!(rt; shelf.append(alloc, name, b"one"), Ok(()));
-    assert_eq!(rt; shelf.append(alloc, name, b"two"), Ok(()));
-    assert_eq!(rt;
-        shelf.load(alloc, name, 6).map_err(|_| "load")?.as_slice(),
-        b"onetwo".as_slice()
+    let (file, long) = ("host_io_test.bin", [7; 4097]);
+    let (nothing, failed, too_long) = (
+        Ok(b"".as_slice()),
+        Err(LoadFault::Failed),
+        Err(LoadFault::TooLong),
     );
-    assert_eq!(rt; shelf.load(alloc, name, 5).err(), Some(LoadFault::TooLong));
-    assert_eq!(rt; shelf.start(alloc, name), Ok(()));
-    assert_eq!(rt; shelf.load(alloc, name, 0).map_err(|_| "load")?.len(), 0);
-    fs::remove_file(&rt, name)?;
+    let rows = [
+        (file, Call::Append(b"x"), failed),
+        (file, Call::Load(9), failed),
+        (file, Call::Start, nothing),
+        (file, Call::Load(0), nothing),
+        (file, Call::Append(b"one"), nothing),
+        (file, Call::Append(b"two"), nothing),
+        (file, Call::Load(6), Ok(b"onetwo".as_slice())),
+        (file, Call::Load(5), too_long),
+        (file, Call::Start, nothing),
+        (file, Call::Load(9), nothing),
+        (file, Call::Append(&long), nothing),
+        (file, Call::Load(4097), Ok(long.as_slice())),
+        (file, Call::Load(4096), too_long),
+        // a folder in the place of a file
+        (".", Call::Load(9), failed),
+        (".", Call::Start, failed),
+        (".", Call::Append(b"x"), failed),
+        ("no_such_folder/a", Call::Start, failed),
+        // a file that nobody may write
+        ("/proc/version", Call::Append(b"x"), failed),
+    ];
+    for (row, (name, call, expected)) in rows.iter().enumerate() {
+        let answered = answer(&mut shelf, alloc, name, call);
+        assert_eq!(rt;
+            answered
+                .as_ref()
+                .map(|blob| blob.as_slice())
+                .map_err(|fault| *fault),
+            *expected,
+            "{row}"
+        );
+    }
+    assert_eq!(rt; shelf.faults.load_faults, 2);
+    assert_eq!(rt; shelf.faults.write_faults, 5);
     assert_eq!(rt;
-        shelf.start(alloc, "no_such_folder/a"),
-        Err(StoreFault::Failed)
+        shelf
+            .faults
+            .bad
+            .is_some_and(|bad| bad.as_text() == "/proc/version"),
+        true
     );
+    fs::remove_file(&rt, file)?;
     Ok(())
 }
 
@@ -158,6 +216,29 @@ impl Write for Broken {
     }
 }
 
+/// A writer that takes a byte at a time, and is interrupted before each.
+#[derive(Drop)]
+struct Drips {
+    taken: Vec<u8>,
+    is_ready: bool,
+}
+
+impl Write for Drips {
+    fn write(&mut self, buf: &[u8]) -> io::Result<usize> {
+        self.is_ready = !self.is_ready;
+        if self.is_ready {
+            return Err(ErrorKind::Interrupted.into());
+        }
+        let count = buf.len().min(1);
+        self.taken.extend_from_slice(&buf[..count])?;
+        Ok(count)
+    }
+
+    fn flush(&mut self) -> io::Result<()> {
+        Ok(())
+    }
+}
+
 #[test]
 fn a_reader_is_a_source(rt: HostRuntime) {
     let mut source = StdSource::new(b"abc".as_slice());
@@ -167,6 +248,11 @@ fn a_reader_is_a_source(rt: HostRuntime) {
     assert_eq!(rt; source.read(&mut buffer), Ok(1));
     assert_eq!(rt; source.read(&mut buffer), Ok(0));
     assert_eq!(rt; StdSource::new(Broken).read(&mut buffer), Err(ReadFailed));
+    let mut whole = StdSource::new(b"abc".as_slice());
+    assert_eq!(rt;
+        read_whole(&mut whole, rt.alloc(), 2).err(),
+        Some(LoadFault::TooLong)
+    );
 }
 
 #[test]
@@ -177,6 +263,12 @@ fn a_writer_is_a_sink(rt: HostRuntime) -> Result<(), Fail> {
     assert_eq!(rt; sink.write_all(alloc, b"ab"), Ok(()));
     assert_eq!(rt; sink.write_all(alloc, b"cd"), Err(StoreFault::Failed));
     assert_eq!(rt; written, [b'a', b'b', b'c']);
+    let mut drips = Drips {
+        taken: Vec::new(alloc),
+        is_ready: false,
+    };
+    assert_eq!(rt; StdSink::new(&mut drips).write_all(alloc, b"abc"), Ok(()));
+    assert_eq!(rt; drips.taken.as_slice(), b"abc".as_slice());
     assert_eq!(rt;
         StdSink::new(Broken).write_all(alloc, b"x"),
         Err(StoreFault::Failed)

@@ -1,4 +1,4 @@
-// Texts in fixed room, which may be no UTF-8.
+//! Texts in fixed room, which may be no UTF-8.
 ghost use Rattle.std.specs.Prelude.{◌≡◌, ◌+◌, ◌≤◌, List, ℕ, [], ◌++◌, length, take};
 
 use arrayvec::ArrayVec;
@@ -28,7 +28,7 @@ impl<const ROOM: usize> Model for Text<ROOM> {
 }
 
 /// The first `most` bytes, or all where there are fewer.
-fn first_of(bytes: &[u8], most: usize) -> &[u8]
+pub fn first_of(bytes: &[u8], most: usize) -> &[u8]
     ensures first { result.now ≡ take most bytes.now }
     ensures fits { length result.now ≤ most }
 {

@@ -1,4 +1,4 @@
-// What the program needs of the outside.
+//! What the program needs of the outside.
 ghost use Rattle.std.specs.Prelude.{◌≡◌, IsTrue};
 ghost use Rattle.host_io.specs.Names.{is_file_name};
 ghost use Rattle.host_io.specs.Outside.{ShelfState, SinkState, SourceState, Loads, Starts, Appends, Adds, Reads};
