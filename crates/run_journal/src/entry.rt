@@ -11,15 +11,16 @@ pub const NO_CORE: u16 = 0xFFFF;
 pub struct Entry {
     /// The number of the cycle, from 0.
     pub cycle: u64,
-    /// The number of the core in board order; `NO_CORE` where the host or a UART did it.
-    pub core: u16,
     /// The number of the core's act, from 0; 0 where there is no core.
     pub act: u64,
+    /// The number of the core in board order; `NO_CORE` where the host or a UART did it.
+    pub core: u16,
     pub what: What,
 }
 
-/// The limits of a journal count on entries of at most 48 bytes.
-const _: () = prove!(size_of::<Entry>() <= 48);
+/// Fields lie in the order in which they are written, so `act` stands before `core`: behind it there would be a gap of six
+/// bytes.
+const _: () = prove!(size_of::<Entry>() <= 32);
 
 /// What an entry says. A `port` is the number of a stream port, 0 to 15.
 #[derive(Clone, Copy, Debug, PartialEq, Eq)]

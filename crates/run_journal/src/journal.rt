@@ -61,6 +61,13 @@ impl Journal {
         self.entries.len()
     }
 
+    /// The entries, the oldest first.
+    pub fn entries(&self) -> &[Entry]
+        ensures { result.now ≡ self.now.entries }
+    {
+        self.entries.as_slice()
+    }
+
     /// Entry `k`, counted from 0; `None` exactly where `k` isn't below `len`.
     pub fn entry(&self, k: usize) -> Option<Entry>
         ensures entry { result ≡ slice_get self.now.entries k }
