@@ -36,7 +36,7 @@ enall = 0x400
 abbrev pub plain_bits : ℕ
 plain_bits = 0xF6
 
--- MDT, CAPT, PWMA, CASC and all bits above ENALL, the last but CASC: a write that sets one of them is refused
+-- MDT, CAPT, PWMA, CASC and all bits above CASC: a write that sets one of them is refused
 abbrev pub barred_bits : ℕ
 barred_bits = 0xFFFFFA09
 
