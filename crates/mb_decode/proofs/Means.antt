@@ -11,7 +11,8 @@ use Rattle.op_table.specs.declared.form.Form.TheVariants.{A}
 use Rattle.op_table.specs.declared.op.Op.{Op}
 use Rattle.op_table.specs.Table.{rows, matches, rows_of, row_for, IsRowOf, IsSound}
 use Rattle.mb_decode.specs.declared.instruction.Instr.{Instr}
-use Rattle.mb_decode.specs.Meaning.{read, Fits, placed, the_only, Means, InRange, imm_limit}
+use Rattle.mb_decode.specs.Meaning.{read, Fits, placed, the_only, Means, InRange, limits_of}
+use Rattle.op_table.specs.Forms.{fields_of}
 use Rattle.mb_decode.proofs.Masks.{kept, and_is_kept}
 use Rattle.mb_decode.proofs.Spelling.{Reads, spelled_reads, Spells, read_spells}
 
@@ -110,12 +111,10 @@ one_word known sound v w i v_word w_word v_means w_means =
 pub one_instruction : (w : ℕ) (i j : Instr) → Means w i → Means w j → i ≡ j
 one_instruction w i j i_means j_means = cc
 
-below_limit : (f : Form) (i : Instr) → Fits f i → (i.imm < imm_limit f) × (i.flags < 32)
-below_limit A i fits = (omega arith, omega arith)
-below_limit _ i fits = (omega arith, omega arith)
+flags_limit : (f : Form) → (limits_of (fields_of f)).flags ≤ 32
+flags_limit A = omega arith
+flags_limit _ = omega arith
 
 -- what fits its row is in the range of its instruction
 pub in_range : (i : Instr) → Fits (row_for i.op).form i → InRange i
-in_range i fits =
-    let below = below_limit (row_for i.op).form i fits in
-    record { imm = below.0; flags = below.1 }
+in_range i fits = record { imm = fits.imm; flags = omega (arith, fits.flags, flags_limit (row_for i.op).form) }

@@ -4,43 +4,28 @@ use Rattle.std.specs.Option.{option_map}
 use Rattle.op_table.specs.declared.entry.Row.{Row}
 use Rattle.op_table.specs.declared.op.Op.{Op}
 use Rattle.op_table.specs.declared.form.Form.{Form}
-use Rattle.op_table.specs.declared.form.Form.TheVariants.{A, U, B, S, R, Rl, I, Il, Cr, Ci, M, N, T, E, G, P, Gd, Pd}
+use Rattle.op_table.specs.Forms.{Field, Part, Rd, Ra, Rb, Imm, Letters, PutLetters, fields_of, unit_of}
 use Rattle.op_table.specs.Table.{row_for, rows_of}
 use Rattle.mb_word.specs.Word.{field}
 use Rattle.mb_decode.specs.declared.instruction.Instr.{Instr}
 
-abbrev pub rd_of : ℕ → ℕ
-rd_of w = field w 6 5
+-- an instruction with a value in one of its parts
+abbrev pub with_part : Part → ℕ → Instr → Instr
+with_part Rd value i = record i { rd = value }
+with_part Ra value i = record i { ra = value }
+with_part Rb value i = record i { rb = value }
+with_part Imm value i = record i { imm = value }
+with_part Letters value i = record i { flags = value }
+with_part PutLetters value i = record i { flags = 2 * value }
 
-abbrev pub ra_of : ℕ → ℕ
-ra_of w = field w 11 5
-
-abbrev pub rb_of : ℕ → ℕ
-rb_of w = field w 16 5
-
-abbrev pub imm_of : ℕ → ℕ
-imm_of w = field w 16 16
+-- an instruction whose parts are the fields of a word
+abbrev pub filled : List Field → ℕ → Instr → Instr
+filled [] w i = i
+filled (f ∷ fs) w i = with_part f.part (field w f.first f.width) (filled fs w i)
 
 -- the fields of a form, at their places in the word; those that it lacks are 0
 abbrev pub read : Form → Op → ℕ → Instr
-read A name w = record { op = name; rd = rd_of w; ra = ra_of w; rb = rb_of w; imm = 0; flags = 0 }
-read U name w = record { op = name; rd = rd_of w; ra = ra_of w; rb = 0; imm = 0; flags = 0 }
-read B name w = record { op = name; rd = rd_of w; ra = ra_of w; rb = 0; imm = imm_of w; flags = 0 }
-read S name w = record { op = name; rd = rd_of w; ra = ra_of w; rb = 0; imm = field w 27 5; flags = 0 }
-read R name w = record { op = name; rd = 0; ra = 0; rb = rb_of w; imm = 0; flags = 0 }
-read Rl name w = record { op = name; rd = rd_of w; ra = 0; rb = rb_of w; imm = 0; flags = 0 }
-read I name w = record { op = name; rd = 0; ra = 0; rb = 0; imm = imm_of w; flags = 0 }
-read Il name w = record { op = name; rd = rd_of w; ra = 0; rb = 0; imm = imm_of w; flags = 0 }
-read Cr name w = record { op = name; rd = 0; ra = ra_of w; rb = rb_of w; imm = 0; flags = 0 }
-read Ci name w = record { op = name; rd = 0; ra = ra_of w; rb = 0; imm = imm_of w; flags = 0 }
-read M name w = record { op = name; rd = rd_of w; ra = 0; rb = 0; imm = 0; flags = 0 }
-read N name w = record { op = name; rd = 0; ra = 0; rb = 0; imm = field w 6 5; flags = 0 }
-read T name w = record { op = name; rd = 0; ra = ra_of w; rb = 0; imm = 0; flags = 0 }
-read E name w = record { op = name; rd = rd_of w; ra = 0; rb = 0; imm = field w 17 15; flags = 0 }
-read G name w = record { op = name; rd = rd_of w; ra = 0; rb = 0; imm = field w 28 4; flags = field w 17 5 }
-read P name w = record { op = name; rd = 0; ra = ra_of w; rb = 0; imm = field w 28 4; flags = 2 * field w 17 4 }
-read Gd name w = record { op = name; rd = rd_of w; ra = 0; rb = rb_of w; imm = 0; flags = field w 22 5 }
-read Pd name w = record { op = name; rd = 0; ra = ra_of w; rb = rb_of w; imm = 0; flags = 2 * field w 22 4 }
+read form name w = filled (fields_of form) w (record { op = name; rd = 0; ra = 0; rb = 0; imm = 0; flags = 0 })
 
 -- the one item of a list of one
 abbrev pub the_only : {X : Type 0} → List X → Option X
@@ -56,47 +41,57 @@ meaning w = option_map (λ (r : Row). read r.form r.op w) (the_only (rows_of w))
 abbrev pub Means : ℕ → Instr → Type 0
 Means w i = meaning w ≡ Some i
 
+-- how many values each part of an instruction can have: that of a field, as many as the field; that of none, 0 alone
+pub record Limits : Type 0 where
+  pub rd : ℕ
+  pub ra : ℕ
+  pub rb : ℕ
+  pub imm : ℕ
+  pub flags : ℕ
+  pub step : ℕ
+
+abbrev pub limited : Part → ℕ → Limits → Limits
+limited Rd n l = record l { rd = n }
+limited Ra n l = record l { ra = n }
+limited Rb n l = record l { rb = n }
+limited Imm n l = record l { imm = n }
+limited Letters n l = record l { flags = n }
+limited PutLetters n l = record l { flags = 2 * n; step = 2 }
+
+abbrev pub limits_of : List Field → Limits
+limits_of [] = record { rd = 1; ra = 1; rb = 1; imm = 1; flags = 1; step = 1 }
+limits_of (f ∷ fs) = limited f.part (2 ^ f.width) (limits_of fs)
+
+-- the values of an instruction's parts are below their limits, and its letters those of its form
+pub record IsBelow (l : Limits) (i : Instr) : Type 0 where
+  pub rd : i.rd < l.rd
+  pub ra : i.ra < l.ra
+  pub rb : i.rb < l.rb
+  pub imm : i.imm < l.imm
+  pub flags : i.flags < l.flags
+  pub letters : i.flags % l.step ≡ 0
+
 -- the values that the fields of a form can have; a field that it lacks is 0
 abbrev pub Fits : Form → Instr → Type 0
-Fits A i = (i.rd < 32) × (i.ra < 32) × (i.rb < 32) × (i.imm ≡ 0) × (i.flags ≡ 0)
-Fits U i = (i.rd < 32) × (i.ra < 32) × (i.rb ≡ 0) × (i.imm ≡ 0) × (i.flags ≡ 0)
-Fits B i = (i.rd < 32) × (i.ra < 32) × (i.rb ≡ 0) × (i.imm < 2 ^ 16) × (i.flags ≡ 0)
-Fits S i = (i.rd < 32) × (i.ra < 32) × (i.rb ≡ 0) × (i.imm < 32) × (i.flags ≡ 0)
-Fits R i = (i.rd ≡ 0) × (i.ra ≡ 0) × (i.rb < 32) × (i.imm ≡ 0) × (i.flags ≡ 0)
-Fits Rl i = (i.rd < 32) × (i.ra ≡ 0) × (i.rb < 32) × (i.imm ≡ 0) × (i.flags ≡ 0)
-Fits I i = (i.rd ≡ 0) × (i.ra ≡ 0) × (i.rb ≡ 0) × (i.imm < 2 ^ 16) × (i.flags ≡ 0)
-Fits Il i = (i.rd < 32) × (i.ra ≡ 0) × (i.rb ≡ 0) × (i.imm < 2 ^ 16) × (i.flags ≡ 0)
-Fits Cr i = (i.rd ≡ 0) × (i.ra < 32) × (i.rb < 32) × (i.imm ≡ 0) × (i.flags ≡ 0)
-Fits Ci i = (i.rd ≡ 0) × (i.ra < 32) × (i.rb ≡ 0) × (i.imm < 2 ^ 16) × (i.flags ≡ 0)
-Fits M i = (i.rd < 32) × (i.ra ≡ 0) × (i.rb ≡ 0) × (i.imm ≡ 0) × (i.flags ≡ 0)
-Fits N i = (i.rd ≡ 0) × (i.ra ≡ 0) × (i.rb ≡ 0) × (i.imm < 32) × (i.flags ≡ 0)
-Fits T i = (i.rd ≡ 0) × (i.ra < 32) × (i.rb ≡ 0) × (i.imm ≡ 0) × (i.flags ≡ 0)
-Fits E i = (i.rd < 32) × (i.ra ≡ 0) × (i.rb ≡ 0) × (i.imm < 2 ^ 15) × (i.flags ≡ 0)
-Fits G i = (i.rd < 32) × (i.ra ≡ 0) × (i.rb ≡ 0) × (i.imm < 16) × (i.flags < 32)
-Fits P i = (i.rd ≡ 0) × (i.ra < 32) × (i.rb ≡ 0) × (i.imm < 16) × (i.flags < 32) × (i.flags % 2 ≡ 0)
-Fits Gd i = (i.rd < 32) × (i.ra ≡ 0) × (i.rb < 32) × (i.imm ≡ 0) × (i.flags < 32)
-Fits Pd i = (i.rd ≡ 0) × (i.ra < 32) × (i.rb < 32) × (i.imm ≡ 0) × (i.flags < 32) × (i.flags % 2 ≡ 0)
+Fits form i = IsBelow (limits_of (fields_of form)) i
+
+-- the value of a part
+abbrev pub part_of : Part → Instr → ℕ
+part_of Rd i = i.rd
+part_of Ra i = i.ra
+part_of Rb i = i.rb
+part_of Imm i = i.imm
+part_of Letters i = i.flags
+part_of PutLetters i = i.flags / 2
+
+-- fields at their places
+abbrev pub spelled : List Field → Instr → ℕ
+spelled [] i = 0
+spelled (f ∷ fs) i = part_of f.part i * unit_of f + spelled fs i
 
 -- where a form puts its fields
 abbrev pub placed : Form → Instr → ℕ
-placed A i = i.rd * 2 ^ 21 + i.ra * 2 ^ 16 + i.rb * 2 ^ 11
-placed U i = i.rd * 2 ^ 21 + i.ra * 2 ^ 16
-placed B i = i.rd * 2 ^ 21 + i.ra * 2 ^ 16 + i.imm
-placed S i = i.rd * 2 ^ 21 + i.ra * 2 ^ 16 + i.imm
-placed R i = i.rb * 2 ^ 11
-placed Rl i = i.rd * 2 ^ 21 + i.rb * 2 ^ 11
-placed I i = i.imm
-placed Il i = i.rd * 2 ^ 21 + i.imm
-placed Cr i = i.ra * 2 ^ 16 + i.rb * 2 ^ 11
-placed Ci i = i.ra * 2 ^ 16 + i.imm
-placed M i = i.rd * 2 ^ 21
-placed N i = i.imm * 2 ^ 21
-placed T i = i.ra * 2 ^ 16
-placed E i = i.rd * 2 ^ 21 + i.imm
-placed G i = i.rd * 2 ^ 21 + i.imm + i.flags * 2 ^ 10
-placed P i = i.ra * 2 ^ 16 + i.imm + i.flags / 2 * 2 ^ 11
-placed Gd i = i.rd * 2 ^ 21 + i.rb * 2 ^ 11 + i.flags * 2 ^ 5
-placed Pd i = i.ra * 2 ^ 16 + i.rb * 2 ^ 11 + i.flags / 2 * 2 ^ 6
+placed form i = spelled (fields_of form) i
 
 -- the fields that name registers, whatever the form
 pub record NamesRegisters (i : Instr) : Type 0 where
@@ -104,16 +99,7 @@ pub record NamesRegisters (i : Instr) : Type 0 where
   pub ra : i.ra < 32
   pub rb : i.rb < 32
 
--- the immediate of a form is less than this: a port, a shift count or number of `mbar`, 15 bits, else 16 bits
-abbrev pub imm_limit : Form → ℕ
-imm_limit G = 16
-imm_limit P = 16
-imm_limit S = 32
-imm_limit N = 32
-imm_limit E = 2 ^ 15
-imm_limit _ = 2 ^ 16
-
 -- what the other fields can hold
 pub record InRange (i : Instr) : Type 0 where
-  pub imm : i.imm < imm_limit (row_for i.op).form
+  pub imm : i.imm < (limits_of (fields_of (row_for i.op).form)).imm
   pub flags : i.flags < 32

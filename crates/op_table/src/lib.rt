@@ -21,7 +21,7 @@ pub use kinds::{
 };
 pub use lookup::{
     at_most_one_row, belongs_into_slot, candidates, every_row_is_known, is_store, kind_of,
-    latency_of, row, row_of, second_of,
+    latency_of, names_differ, row, row_of, second_of,
 };
 pub use mnemonic::Mnemonic;
 pub use op::Op;

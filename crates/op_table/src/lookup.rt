@@ -1,4 +1,6 @@
 ghost use Rattle.op_table.specs.Kinds.{belongs_into_slot, latency_of};
+ghost use Rattle.op_table.specs.Mnemonics.{mnemonic};
+ghost use Rattle.op_table.specs.declared.op.Op.{Op};
 ghost use Rattle.op_table.specs.Table.{
   IsRowOf,
   IsSound,
@@ -19,6 +21,8 @@ ghost use Rattle.std.specs.Prelude.{
   ◌<◌,
   ◌≤◌,
   ◌↔◌,
+  ◌⊎◌,
+  codes,
   ℕ,
   filter,
   length,
@@ -107,7 +111,7 @@ pub fn is_store(op: Op) -> bool
     matches!(kind_of(op), Kind::Store(_))
 }
 
-/// Each instruction has one row, whose mask is that of its form.
+/// Each instruction has one row, whose mask is that of its form and whose latency and slot are those of its kind.
 pub fn every_row_is_known()
     ensures only { (op : Op) → IsRowOf op (row_for op) }
     ensures sound { (op : Op) → IsSound (row_for op) }
@@ -116,6 +120,11 @@ pub fn every_row_is_known()
 /// No word is of two rows.
 pub fn at_most_one_row()
     ensures { (w : ℕ) → length (rows_of w) ≤ 1 }
+{}
+
+/// A mnemonic names one instruction, but that `mfs` names one for each special register that it reads.
+pub fn names_differ()
+    ensures { (op other : Op) → (row_for op).name ≡ (row_for other).name → (op ≡ other) ⊎ ((row_for op).name ≡ mnemonic (codes "mfs")) }
 {}
 
 /// The places at which the rows of each opcode begin.

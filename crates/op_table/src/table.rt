@@ -12,26 +12,35 @@ use core_regs::Size;
 /// How many rows the table has.
 pub const COUNT: usize = 120;
 
+/// The bits of the fields rD, rA, rB and of a 16-bit immediate.
+const RD: u32 = 0x03E0_0000;
+
+const RA: u32 = 0x001F_0000;
+
+const RB: u32 = 0x0000_F800;
+
+const IMM: u32 = 0x0000_FFFF;
+
 /// The mask of a form's rows: all bits of a word that the form has no field for.
 macro_rules! mask {
-    (A) => { 0xFC00_07FF };
-    (U) => { 0xFC00_FFFF };
-    (B) => { 0xFC00_0000 };
-    (S) => { 0xFC00_FFE0 };
-    (R) => { 0xFFFF_07FF };
-    (Rl) => { 0xFC1F_07FF };
-    (I) => { 0xFFFF_0000 };
-    (Il) => { 0xFC1F_0000 };
-    (Cr) => { 0xFFE0_07FF };
-    (Ci) => { 0xFFE0_0000 };
-    (M) => { 0xFC1F_FFFF };
-    (N) => { 0xFC1F_FFFF };
-    (T) => { 0xFFE0_FFFF };
-    (E) => { 0xFC1F_8000 };
-    (G) => { 0xFC1F_83F0 };
-    (P) => { 0xFFE0_87F0 };
-    (Gd) => { 0xFC1F_041F };
-    (Pd) => { 0xFFE0_043F };
+    (A) => { !(RD | RA | RB) };
+    (U) => { !(RD | RA) };
+    (B) => { !(RD | RA | IMM) };
+    (S) => { !(RD | RA | 0x1F) };
+    (R) => { !RB };
+    (Rl) => { !(RD | RB) };
+    (I) => { !IMM };
+    (Il) => { !(RD | IMM) };
+    (Cr) => { !(RA | RB) };
+    (Ci) => { !(RA | IMM) };
+    (M) => { !RD };
+    (N) => { !RD };
+    (T) => { !RA };
+    (E) => { !(RD | 0x7FFF) };
+    (G) => { !(RD | 0x7C0F) };
+    (P) => { !(RA | 0x780F) };
+    (Gd) => { !(RD | RB | 0x3E0) };
+    (Pd) => { !(RA | RB | 0x3C0) };
 }
 
 /// A letter of a mnemonic, 0 after the last.
