@@ -1,4 +1,9 @@
-//! The instruction table of UG984: a row for each instruction, with the mask and bits of its words.
+//! The instruction table of UG984. One `Row` says all of an instruction: its mnemonic, its form and the bits of its words,
+//! where its second operand stands, how soon its register can be used, whether a delay slot takes it, and, as a `Kind`,
+//! what it does.
+//!
+//! `row_of(Op::Addik)` is the row of `addik`: form B, bits 30000000 hex, an immediate, `Kind::Add { carry: false, keep:
+//! true }`. `candidates` are the rows that a word can be of, by its opcode; no word is of two (`at_most_one_row`).
 //!
 //! A further row is a variant of `Op` and a line of `ROWS` at the same place, counted in `COUNT`, and a line of the
 //! definition `rows` at that place. The index by opcode changes only where the row is the first of its opcode.
