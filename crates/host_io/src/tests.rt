@@ -125,9 +125,10 @@ enum Call<'a> {
 fn answer(
     shelf: &mut DirShelf<HostRuntime>,
     alloc: Global,
-    name: &str,
+    file: &FileName,
     call: &Call,
 ) -> Result<Blob, LoadFault> {
+    let name = file.as_text();
     let done = match call {
         Call::Start => shelf.start(alloc, name),
         Call::Append(bytes) => shelf.append(alloc, name, bytes),
@@ -173,7 +174,8 @@ fn real_files_are_read_and_written(rt: HostRuntime) -> Result<(), Fail> {
         ("/proc/version", Call::Append(b"x"), failed),
     ];
     for (row, (name, call, expected)) in rows.iter().enumerate() {
-        let answered = answer(&mut shelf, alloc, name, call);
+        let name = FileName::from_text(name).ok_or("name")?;
+        let answered = answer(&mut shelf, alloc, &name, call);
         assert_eq!(rt;
             answered
                 .as_ref()
