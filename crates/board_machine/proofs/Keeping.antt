@@ -12,9 +12,9 @@ use Rattle.board_machine.specs.declared.events.Event.{Event}
 use Rattle.board_machine.specs.World.{World, CoreAt, Start, Reached, Steps}
 use Rattle.board_machine.specs.History.{Tells, TakeStands, is_take, responses, view_told}
 use Rattle.board_machine.specs.Runs.{IsRunFrom, KeepsRest, KeepsRuns}
-use Rattle.board_machine.specs.Fabric.{Fabric, or_low, hopes_at}
+use Rattle.board_machine.specs.Fabric.{Fabric, has_controller, or_low}
 use Rattle.board_machine.proofs.Steps.{step_kept, steps_append}
-use Rattle.board_machine.proofs.Staying.{IsWired, steps_rest}
+use Rattle.board_machine.proofs.Staying.{steps_rest}
 use Rattle.board_machine.proofs.Tells.{steps_tell}
 
 after_none : (v x : View) (t : _) (k : ℕ) → k ≡ 0 → v ≡ x → state_after v t k ≡ Some x
@@ -51,13 +51,12 @@ steps_lines : (w v : World) (es : List Event) → Steps w es v → v.fabric.line
 steps_lines w v [] h = ap (λ (x : World). x.fabric.lines) h
 steps_lines w v (e ∷ es) h = steps_lines h.0 v es h.2 ∙ (step_kept w h.0 e h.1).lines
 
-wired : (b : BoardFile) (views : List View) (inputs : List (List ℕ)) (w : World) → Reached b views inputs w → IsWired w.fabric
-wired b views inputs w r = record {
-  line = λ core e.
-      let low : or_low (slice_get w.fabric.lines core) ≡ false = ap (λ (ls : List Bool). or_low (slice_get ls core)) (steps_lines r.first w r.events r.ran ∙ r.began.lines) ∙ low_at r.first.cores core in
-      let z : false ≡ true = sym low ∙ e in
-      cc;
-}
+-- so one is high only where the core has a controller
+pub wired : (b : BoardFile) (views : List View) (inputs : List (List ℕ)) (w : World) → Reached b views inputs w → (core : ℕ) → or_low (slice_get w.fabric.lines core) ≡ true → has_controller w.fabric core ≡ true
+wired b views inputs w r core e =
+    let low : or_low (slice_get w.fabric.lines core) ≡ false = ap (λ (ls : List Bool). or_low (slice_get ls core)) (steps_lines r.first w r.events r.ran ∙ r.began.lines) ∙ low_at r.first.cores core in
+    let z : false ≡ true = sym low ∙ e in
+    cc
 
 pub keeps_rest : (old new : World) (es : List Event) → Steps old es new → KeepsRest old new
-keeps_rest old new es h b views inputs r s = steps_rest old new es (wired b views inputs old r) h s
+keeps_rest old new es h b views inputs r s = steps_rest old new es h s

@@ -4,4 +4,5 @@ pub mod Waits
 pub mod Tells
 pub mod Turns
 pub mod Staying
+pub mod RestBy
 pub mod Keeping

@@ -22,7 +22,7 @@ use Rattle.board_machine.specs.declared.events.Event.{Event}
 use Rattle.board_machine.specs.declared.events.Event.TheVariants.{Devices, Host, Tick, Next}
 use Rattle.board_machine.specs.declared.events.Rest.{Rest}
 use Rattle.board_machine.specs.declared.events.RunEnd.TheVariants.{Rest as AtRest, CyclesSpent, JournalFull}
-use Rattle.board_machine.specs.Fabric.{Fabric, entered, entered_some, entry_of, breaks_come, host_moves, hopes_at, is_kept, move_by, move_of, part_at, moved, no_core, or_low, shown, waited}
+use Rattle.board_machine.specs.Fabric.{Fabric, entered, entered_some, entry_of, breaks_come, host_moves, is_kept, move_by, move_of, part_at, moved, no_core, shown, waited}
 use Rattle.board_machine.specs.World.{World, CoreAt, Step, Steps, TickStep, TickMay, IsAct, IsFilling, IsIdle, need}
 use Rattle.board_machine.specs.Resting.{Still, Rests, and_idle, idle_at, idle_here, is_note, is_quiet_to, joined, rest_of, rest_to}
 use Rattle.board_machine.specs.Cycles.{end_at, end_of}
@@ -44,24 +44,15 @@ same_fabric f g e = subst (λ g. Same f g) (sym e) refl
 same_then : (f g h : Fabric) → Same f g → Same g h → Same f h
 same_then f g h a b = b ∙ ap (λ (x : Fabric). record x { cycle = h.cycle; journal = h.journal; spare = h.spare }) a
 
--- a line is high only where the core has a controller
-pub record IsWired (f : Fabric) : Type 0 where
-  pub line : (core : ℕ) → or_low (slice_get f.lines core) ≡ true → (hopes_at f core).interrupt ≡ true
-
 or_left : (a b : Bool) → a ≡ true → a || b ≡ true
 or_left a b e = rw e refl
 
-hoped : (f : Fabric) (core : ℕ) → IsWired f → IsHoped (shown f core)
-hoped f core h = record {
-  interrupt = h.line core;
+-- what has come to a core was hoped for
+pub hoped : (f : Fabric) (core : ℕ) → IsHoped (shown f core)
+hoped f core = record {
+  interrupt = λ e. and_left _ _ e;
   maskable = λ e. or_left _ _ e;
   nonmaskable = λ e. or_left _ _ e;
-}
-
-wired_same : (f g : Fabric) → Same f g → IsWired f → IsWired g
-wired_same f g s h = record {
-  line = λ core e.
-      ap (λ (x : Fabric). (hopes_at x core).interrupt) s ∙ h.line core (sym (ap (λ (x : Fabric). or_low (slice_get x.lines core)) s) ∙ e);
 }
 
 -- nothing moved
@@ -134,21 +125,21 @@ no_moves f (suc k) a = ap (moved k) (no_moves f k a) ∙ ap (λ o. entered_some 
 no_breaks_come : (f : Fabric) (left : List EventRow) → f.left ≡ left → left ≡ [] → breaks_come f ≡ f
 no_breaks_come f left e n = rw (e ∙ n) refl
 
-step_unmoved : (w v : World) (e : Event) → IsWired w.fabric → Still w → Step w e v → Unmoved w v
-step_unmoved w v Devices r s h = same_unmoved w v (ap (λ (w : World). w.fabric) h ∙ no_breaks_come w.fabric w.fabric.left refl s.breaks) (ap (λ (w : World). map (λ s. s.view) w.cores) h) (ap (λ (w : World). map (λ s. s.acts) w.cores) h)
-step_unmoved w v Host r s h = same_unmoved w v (ap (λ (w : World). w.fabric) h ∙ no_moves w.fabric (length w.fabric.rows) s.links) (ap (λ (w : World). map (λ s. s.view) w.cores) h) (ap (λ (w : World). map (λ s. s.acts) w.cores) h)
-step_unmoved w v (Tick core) r s h =
+step_unmoved : (w v : World) (e : Event) → Still w → Step w e v → Unmoved w v
+step_unmoved w v Devices s h = same_unmoved w v (ap (λ (w : World). w.fabric) h ∙ no_breaks_come w.fabric w.fabric.left refl s.breaks) (ap (λ (w : World). map (λ s. s.view) w.cores) h) (ap (λ (w : World). map (λ s. s.acts) w.cores) h)
+step_unmoved w v Host s h = same_unmoved w v (ap (λ (w : World). w.fabric) h ∙ no_moves w.fabric (length w.fabric.rows) s.links) (ap (λ (w : World). map (λ s. s.view) w.cores) h) (ap (λ (w : World). map (λ s. s.acts) w.cores) h)
+step_unmoved w v (Tick core) s h =
     let i = some_of (idle_at w core) (s.cores core h.was h.there) in
     tick_unmoved w v core h (due h.was.view (shown w.fabric core)) i.0
-    (idle_lasts h.was.view (shown w.fabric core) i.0 (hoped w.fabric core r) (sym (ap (idle_here w.fabric core) h.there) ∙ i.1)) h.may
-step_unmoved w v Next r s h = subst (Unmoved w) (sym h) (record { same = refl; views = refl; acts = refl; added = []; journal = sym (append-nil _); notes = tt })
+    (idle_lasts h.was.view (shown w.fabric core) i.0 (hoped w.fabric core) (sym (ap (idle_here w.fabric core) h.there) ∙ i.1)) h.may
+step_unmoved w v Next s h = subst (Unmoved w) (sym h) (record { same = refl; views = refl; acts = refl; added = []; journal = sym (append-nil _); notes = tt })
 
 -- from a still board, whatever the events
-pub steps_rest : (w v : World) (es : List Event) → IsWired w.fabric → Steps w es v → Still w → Rests w v
-steps_rest w v [] r h s = subst (Rests w) (sym h) (record { views = refl; acts = refl; links = refl; feeds = refl; added = []; journal = sym (append-nil _); notes = tt; still = s })
-steps_rest w v (e ∷ es) wired h s =
-    let u = step_unmoved w h.0 e wired s h.1 in
-    let r = steps_rest h.0 v es (wired_same w.fabric (h.0.fabric) u.same wired) h.2 (still_kept w h.0 s u) in
+pub steps_rest : (w v : World) (es : List Event) → Steps w es v → Still w → Rests w v
+steps_rest w v [] h s = subst (Rests w) (sym h) (record { views = refl; acts = refl; links = refl; feeds = refl; added = []; journal = sym (append-nil _); notes = tt; still = s })
+steps_rest w v (e ∷ es) h s =
+    let u = step_unmoved w h.0 e s h.1 in
+    let r = steps_rest h.0 v es h.2 (still_kept w h.0 s u) in
     record {
       views = r.views ∙ u.views;
       acts = r.acts ∙ u.acts;

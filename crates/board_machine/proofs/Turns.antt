@@ -21,7 +21,7 @@ use Rattle.board_machine.proofs.Lists.{slice_get_set_same, slice_get_set_other}
 rotated_apart : (first n j k : ℕ) → first < n → j < n → k < n → rotated first n j ≡ rotated first n k → j ≡ k
 rotated_apart first n j k f a b e = grind (arith, nat_tests)
 
-turns_apart : (t : Turn) (n cycle j k : ℕ) → j < n → k < n → core_at t n cycle j ≡ core_at t n cycle k → j ≡ k
+pub turns_apart : (t : Turn) (n cycle j k : ℕ) → j < n → k < n → core_at t n cycle j ≡ core_at t n cycle k → j ≡ k
 turns_apart Ascending n cycle j k a b e = e
 turns_apart Descending n cycle j k a b e = omega (arith, a, b, e)
 turns_apart Rotating n cycle j k a b e = rotated_apart (cycle % n) n j k (omega (arith, a)) a b e

@@ -103,18 +103,25 @@ is_on core r = r.core == core
 abbrev pub breaks_at : Fabric → ℕ → Breaks
 breaks_at f core = or_none (slice_get f.pending core)
 
+abbrev pub has_controller : Fabric → ℕ → Bool
+has_controller f core = list_any (is_on core) f.devices.intcs
+
 -- what can still come: whether the core has a controller, and of each kind of break whether one is pending or left
 abbrev pub hopes_at : Fabric → ℕ → Hopes
 hopes_at f core = record {
-  interrupt = list_any (is_on core) f.devices.intcs;
+  interrupt = has_controller f core;
   maskable = (breaks_at f core).maskable || list_any (is_break core false) f.left;
   nonmaskable = (breaks_at f core).nonmaskable || list_any (is_break core true) f.left;
 }
 
+-- the interrupt line of a core, as it was latched; only a controller drives it, so without one it is low
+abbrev pub line_at : Fabric → ℕ → Bool
+line_at f core = has_controller f core && or_low (slice_get f.lines core)
+
 -- what the ports of a core show; without devices the bus refuses each access
 abbrev pub shown : Fabric → ℕ → Shown
 shown f core = record {
-  line = or_low (slice_get f.lines core);
+  line = line_at f core;
   breaks = breaks_at f core;
   hopes = hopes_at f core;
   first = λ port. first_in (channel_at f.links (link_to f.rows core port));

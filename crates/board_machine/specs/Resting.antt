@@ -1,7 +1,9 @@
 -- When nothing can happen on a board any more.
-use Rattle.std.specs.Prelude.{◌≡◌, ℕ, zero, suc, ◌&&◌, Bool, true, if◌then◌else◌, List, [], ◌++◌, length, map, Option, Some, None, slice_get, is_none, false, ◌==◌}
+use Rattle.std.specs.Prelude.{◌≡◌, ◌↔◌, ℕ, zero, suc, ◌&&◌, Bool, true, if◌then◌else◌, List, [], ◌++◌, length, map, Option, Some, None, slice_get, is_none, false, ◌==◌}
 use Rattle.std.specs.Option.{is_some, option_and_then}
 use Rattle.std.specs.List.{AllByRecursion, flat_map}
+use Rattle.core_regs.specs.declared.causes.StopCause.{StopCause}
+use Rattle.core_regs.specs.declared.causes.WaitOn.{WaitOn}
 use Rattle.isa_step.specs.declared.acts.Idle.{Idle}
 use Rattle.isa_step.specs.declared.acts.Idle.TheVariants as idle
 use Rattle.isa_step.specs.Resting.{idle_view}
@@ -45,6 +47,24 @@ and_idle (Some i) r = Some (joined r i)
 abbrev pub rest_to : World → ℕ → Option Rest
 rest_to w zero = Some Ended
 rest_to w (suc k) = option_and_then (and_idle (idle_at w k)) (rest_to w k)
+
+-- a core that is stopped, and one that waits
+pub record SomeStopped (w : World) : Type 0 where
+  pub core : ℕ
+  pub cause : StopCause
+  pub idle_is : idle_at w core ≡ Some (idle.Stopped cause)
+
+pub record SomeWaits (w : World) : Type 0 where
+  pub core : ℕ
+  pub on : WaitOn
+  pub idle_is : idle_at w core ≡ Some (idle.Waits on)
+
+-- by whom a board rests: Stopped exactly where a core is stopped, Waiting exactly where one waits and none is stopped, and
+-- Ended exactly where neither is
+pub record IsRestBy (w : World) (rest : Rest) : Type 0 where
+  pub stopped : rest ≡ Stopped ↔ SomeStopped w
+  pub waiting : rest ≡ Waiting ↔ (SomeWaits w × (SomeStopped w → ⊥))
+  pub ended : rest ≡ Ended ↔ ((SomeWaits w → ⊥) × (SomeStopped w → ⊥))
 
 -- no item can move at the first links
 abbrev pub is_quiet_to : Fabric → ℕ → Bool

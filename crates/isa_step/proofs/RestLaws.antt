@@ -141,5 +141,5 @@ pub idle_whole : (v : View) (s : Shown) → IsHoped s → idle_view v s ≡ None
 unfolding due_with
 idle_whole v s hoped h = stop_whole (here_of v) (operands_of (here_of v) v.arch.regs) (bare v.arch) v.memory s v.arch.stopped hoped h
 
-pub is_rest : IsRest
-is_rest = record { lasts = idle_lasts; whole = idle_whole }
+pub is_rest : (s : Shown) → IsHoped s → IsRest s
+is_rest s hoped = record { lasts = λ v why h. idle_lasts v s why hoped h; whole = λ v h. idle_whole v s hoped h }

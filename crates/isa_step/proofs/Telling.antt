@@ -1,6 +1,7 @@
 -- Each act that is due is told by its actions.
-use Rattle.std.specs.Prelude.{◌≡◌, ℕ, Bool, true, false, Option, Some, None, option_to_list, if◌then◌else◌}
+use Rattle.std.specs.Prelude.{◌≡◌, ℕ, Bool, true, false, List, Option, Some, None, option_to_list, if◌then◌else◌}
 use Rattle.std.proofs.Common.{refl, ap, sym, subst, ◌∙◌}
+use Rattle.std.proofs.lemmas.Option.{same_Some}
 use Rattle.axi_link.specs.declared.item.Item.{Item}
 use Rattle.core_regs.specs.declared.registers.Arch.{Arch}
 use Rattle.core_regs.specs.declared.causes.StopCause.{StopCause}
@@ -11,9 +12,11 @@ use Rattle.isa_step.specs.declared.acts.Action.TheVariants.{Got, Sent, Seen, Roo
 use Rattle.isa_step.specs.Shown.{Shown}
 use Rattle.isa_step.specs.Deeds.{View, Deed, Due, Does, Waits, Sleeps, Ends, Stops, Want, Goes, Homes, Gets, Puts, Reads, Writes}
 use Rattle.delay_imm.specs.Slots.{may_take}
-use Rattle.isa_step.specs.Due.{awake, by_item, by_room, due, due_by, due_with, here_of, is_closed, reply, take_by, take_due}
-use Rattle.isa_step.specs.History.{IsTold, answered, deed_by, deed_told, took}
+use Rattle.isa_step.specs.Due.{awake, by_item, by_room, due, due_by, due_with, here_of, is_closed, reply, take_by, take_due, takes}
+use Rattle.isa_step.specs.Actions.{are_actions}
+use Rattle.isa_step.specs.History.{IsTold, answered, deed_by, deed_told, exactly, took}
 use Rattle.isa_step.specs.Wants.{is_atomic_here, operands_of, wants}
+use Rattle.isa_step.proofs.Actions.{actions_are, actions_itself}
 use Rattle.isa_step.proofs.Fitting.{IsFit, HasItem, HasRoom, MissedBy, wants_fit}
 
 -- what an outcome says of the actions of its act, where it is one
@@ -111,9 +114,12 @@ abbrev DeedTold : View → Due → Type 0
 DeedTold v (Does d) = deed_told v (option_to_list d.action) ≡ Some d
 DeedTold v _ = Unit {0}
 
+its_own : (d : Deed) → exactly (option_to_list d.action) (Some d) ≡ Some d
+its_own d = ap (λ b. if b then Some d else None) (actions_itself (option_to_list d.action))
+
 of_want : (v : View) (o : Due) → IsToldBy (wants (here_of v) (operands_of (here_of v) v.arch.regs) (bare v.arch) v.memory) o → DeedTold v o
 unfolding deed_told
-of_want v (Does d) h = ap (deed_by v (option_to_list d.action)) h.1 ∙ h.0
+of_want v (Does d) h = ap (exactly (option_to_list d.action)) (ap (deed_by v (option_to_list d.action)) h.1 ∙ h.0) ∙ its_own d
 of_want v (Waits port full) h = tt
 of_want v Sleeps h = tt
 of_want v Ends h = tt
@@ -128,13 +134,26 @@ awake_told v s false =
 due_told : (v : View) (s : Shown) (t : Option Take) (c : Option StopCause) → DeedTold v (due_by (here_of v) (operands_of (here_of v) v.arch.regs) (bare v.arch) v.memory s t c)
 unfolding deed_told
 due_told v s t (Some cause) = tt
-due_told v s (Some t) None = refl
+due_told v s (Some t) None = its_own (takes (bare v.arch) t)
 due_told v s None None = awake_told v s v.arch.asleep
+
+only_by : (actions : List Action) (d e : Deed) (b : Bool) → are_actions (option_to_list d.action) actions ≡ b → (if b then Some d else None) ≡ Some e → actions ≡ option_to_list e.action
+only_by actions d e true q h = sym (actions_are (option_to_list d.action) actions q) ∙ ap (λ (d : Deed). option_to_list d.action) (same_Some d e h)
+only_by actions d e false q h = cc
+
+only_own : (actions : List Action) (o : Option Deed) (e : Deed) → exactly actions o ≡ Some e → actions ≡ option_to_list e.action
+only_own actions None e h = cc
+only_own actions (Some d) e h = only_by actions d e (are_actions (option_to_list d.action) actions) refl h
+
+told_only : (v : View) (actions : List Action) (d : Deed) → deed_told v actions ≡ Some d → actions ≡ option_to_list d.action
+unfolding deed_told
+told_only v actions d h = only_own actions (deed_by v actions (took actions)) d h
 
 pub is_told : IsTold
 unfolding due_with
 is_told = record {
   told = λ v s deed e. subst (DeedTold v) e (due_told v s (take_due (here_of v) (bare v.arch) s) v.arch.stopped);
+  only = told_only;
 }
 
 -- no instruction takes an interrupt or a break

@@ -1,16 +1,17 @@
 -- The view after a number of acts, told by what the acts did at the ports.
-use Rattle.std.specs.Prelude.{◌≡◌, ℕ, zero, suc, Bool, true, false, List, ◌∷◌, Option, Some, None, option_to_list}
+use Rattle.std.specs.Prelude.{◌≡◌, ℕ, zero, suc, Bool, true, false, List, ◌∷◌, Option, Some, None, option_to_list, if◌then◌else◌}
 use Rattle.axi_link.specs.declared.item.Item.{Item}
 use Rattle.core_regs.specs.State.{bare}
 use Rattle.core_regs.specs.declared.causes.Take.{Take}
 use Rattle.isa_step.specs.declared.acts.Action.{Action}
 use Rattle.isa_step.specs.declared.acts.Action.TheVariants.{Took, Got, Sent, Seen, Room, Missed, Read, ReadRefused, Wrote, WriteRefused}
+use Rattle.isa_step.specs.Actions.{are_actions}
 use Rattle.isa_step.specs.Shown.{Shown}
 use Rattle.isa_step.specs.Deeds.{View, Deed, Does, Want, Goes, Homes, Gets, Puts, Reads, Writes, after}
 use Rattle.isa_step.specs.Due.{due, here_of, takes}
 use Rattle.isa_step.specs.Wants.{operands_of, wants}
 
--- the answers that the actions of an act hold: an item, room, a word of the bus, or that the bus took a word
+-- the deed that the first action of a list answers for: an item, room, a word of the bus, or that the bus took a word
 abbrev pub told_item : (Item → Deed) → Option Deed → List Action → Option Deed
 told_item item empty (Got port x ∷ rest) = Some (item x)
 told_item item empty (Seen port x ∷ rest) = Some (item x)
@@ -33,7 +34,7 @@ told_write answer (Wrote addr word ∷ rest) = Some (answer true)
 told_write answer (WriteRefused addr word ∷ rest) = Some (answer false)
 told_write answer _ = None
 
--- the act of an instruction with these answers; undefined where they lack one that it asks for
+-- the deed of an instruction with such an answer, None where there is none of the kind that it asks for
 abbrev pub answered : Want → List Action → Option Deed
 answered (Goes deed) actions = Some deed
 answered (Homes deed) actions = Some deed
@@ -50,9 +51,14 @@ abbrev pub deed_by : View → List Action → Option Take → Option Deed
 deed_by v actions (Some t) = Some (takes (bare v.arch) t)
 deed_by v actions None = answered (wants (here_of v) (operands_of (here_of v) v.arch.regs) (bare v.arch) v.memory) actions
 
--- the act that did these actions
+-- a deed that did exactly these actions: of this kind, at this port or address, with this item or word, and no further one
+abbrev pub exactly : List Action → Option Deed → Option Deed
+exactly actions None = None
+exactly actions (Some deed) = if are_actions (option_to_list deed.action) actions then Some deed else None
+
+-- the act that did these actions; undefined where they are not those that the view asks for
 unfoldable pub deed_told : View → List Action → Option Deed
-deed_told v actions = deed_by v actions (took actions)
+deed_told v actions = exactly actions (deed_by v actions (took actions))
 
 abbrev pub view_after : View → Option Deed → Option View
 view_after v None = None
@@ -67,6 +73,7 @@ unfoldable pub state_after : View → (ℕ → List Action) → ℕ → Option V
 state_after v responses zero = Some v
 state_after v responses (suc k) = one_more (responses k) (state_after v responses k)
 
--- each act that is due is told by its actions, so the view after it is too
+-- each act that is due is told by its actions, so the view after it is too; and no act is told by other actions than its own
 pub record IsTold : Type 0 where
   pub told : (v : View) (s : Shown) (deed : Deed) → due v s ≡ Does deed → deed_told v (option_to_list deed.action) ≡ Some deed
+  pub only : (v : View) (actions : List Action) (deed : Deed) → deed_told v actions ≡ Some deed → actions ≡ option_to_list deed.action

@@ -1,5 +1,6 @@
 pub mod Shown
 pub mod Deeds
+pub mod Actions
 pub mod Arithmetic
 pub mod Special
 pub mod Branches

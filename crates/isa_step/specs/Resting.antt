@@ -82,7 +82,7 @@ idle_due Sleeps = Some Asleep
 idle_due Ends = Some Ended
 idle_due (Stops cause) = Some (Stopped cause)
 
--- a core rests exactly where no act is due now and none will be, whatever comes of what is hoped for
-pub record IsRest : Type 0 where
-  pub lasts : (v : View) (s : Shown) (why : Idle) → IsHoped s → idle_view v s ≡ Some why → idle_due (due v s) ≡ Some why
-  pub whole : (v : View) (s : Shown) → IsHoped s → idle_view v s ≡ None → (idle_due (due v s) ≡ None) ⊎ (idle_due (due v (all_come s)) ≡ None)
+-- at these ports a core rests exactly where no act is due now and none will be, whatever comes of what is hoped for
+pub record IsRest (s : Shown) : Type 0 where
+  pub lasts : (v : View) (why : Idle) → idle_view v s ≡ Some why → idle_due (due v s) ≡ Some why
+  pub whole : (v : View) → idle_view v s ≡ None → (idle_due (due v s) ≡ None) ⊎ (idle_due (due v (all_come s)) ≡ None)

@@ -1,7 +1,7 @@
 //! Ports in memory, for tests and examples.
 
-ghost use Rattle.isa_step.specs.Benches.{bench_shows};
-ghost use Rattle.std.specs.Prelude.{◌≡◌, ◌-◌, [], length};
+ghost use Rattle.isa_step.specs.Benches.{bench_shows, no_breaks, no_hopes};
+ghost use Rattle.std.specs.Prelude.{◌≡◌, ◌-◌, [], false, length, replicate, None};
 
 use crate::acts::{Action, Breaks, BusError, Hopes};
 use crate::ports::{Ports, Sees};
@@ -17,6 +17,7 @@ const KEPT: usize = 32;
 pub struct BenchPorts {
     pub line: bool,
     pub breaks: Breaks,
+    /// What can still come, beside what has come already.
     pub hopes: Hopes,
     /// What each port has for the core.
     pub inputs: [Option<Item>; 16],
@@ -30,7 +31,10 @@ pub struct BenchPorts {
 impl BenchPorts {
     /// Ports that show nothing but room.
     pub fn new() -> BenchPorts
-        ensures { result.log.items ≡ [] }
+        ensures events { (result.line ≡ false) × (result.breaks ≡ no_breaks) × (result.hopes ≡ no_hopes) }
+        ensures ports { (result.inputs ≡ replicate 16 None) × (result.outputs ≡ replicate 16 None) }
+        ensures bus { result.bus ≡ None }
+        ensures log { result.log.items ≡ [] }
     {
         BenchPorts {
             line: false,
@@ -60,6 +64,7 @@ impl BenchPorts {
 }
 
 impl Sees for BenchPorts {
+    ghost use Rattle.std.specs.Prelude.{refl};
     ghost use Rattle.isa_step.specs.Benches.{bench_shows};
 
     ghost shows = { bench_shows };
@@ -73,7 +78,11 @@ impl Sees for BenchPorts {
     }
 
     fn hopes(&self) -> Hopes {
-        self.hopes
+        Hopes {
+            interrupt: self.line || self.hopes.interrupt,
+            maskable: self.breaks.maskable || self.hopes.maskable,
+            nonmaskable: self.breaks.nonmaskable || self.hopes.nonmaskable,
+        }
     }
 
     fn peek(&self, port: u8) -> Option<Item> {
@@ -83,6 +92,8 @@ impl Sees for BenchPorts {
     fn room(&self, port: u8) -> bool {
         self.outputs[port as usize].is_none()
     }
+
+    ghost hoped = { λ b. record { interrupt = λ e. rw e refl; maskable = λ e. rw e refl; nonmaskable = λ e. rw e refl } };
 }
 
 impl Ports for BenchPorts {
