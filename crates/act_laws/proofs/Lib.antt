@@ -1,0 +1,3 @@
+mod Stores
+pub mod Lateness
+pub mod Reading

@@ -1,0 +1,4 @@
+pub mod Silence
+pub mod Stamps
+pub mod Going
+pub mod Holding
