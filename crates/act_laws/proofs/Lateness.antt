@@ -17,18 +17,19 @@ use Rattle.alu_units.specs.declared.faults.DivFault.{DivFault}
 use Rattle.trap_entry.specs.declared.cause.Cause.{Cause}
 use Rattle.trap_entry.specs.declared.cause.Cause.TheVariants.{DataBus, Illegal as IllegalWord, Stream, Unaligned}
 use Rattle.mb_decode.specs.declared.instruction.Instr.{Instr}
-use Rattle.mb_decode.specs.Registers.{is_store, written}
+use Rattle.op_table.specs.Table.{is_store}
+use Rattle.mb_decode.specs.Registers.{written}
 use Rattle.isa_step.specs.declared.acts.Act.TheVariants as acts
 use Rattle.isa_step.specs.declared.acts.Action.{Action}
 use Rattle.isa_step.specs.declared.acts.Action.TheVariants.{ReadRefused, WriteRefused, Wrote}
 use Rattle.isa_step.specs.declared.acts.Here.{Here}
 use Rattle.isa_step.specs.declared.acts.Late.{Late}
-use Rattle.isa_step.specs.declared.acts.Latency.{Latency}
+use Rattle.op_table.specs.declared.kinds.Latency.{Latency}
 use Rattle.isa_step.specs.declared.acts.Operands.{Operands}
 use Rattle.isa_step.specs.declared.supplying.Given.{Given}
-use Rattle.isa_step.specs.declared.kinds.Kind.{Kind}
-use Rattle.isa_step.specs.declared.kinds.Kind.TheVariants.{Add, Rsub, Compare, Multiply, Shift, Divide, Logic, FirstEqualByte, IsEqual, ShiftByOne, ExtendSign, MoveFrom, SetMsr, ClearMsr, Branch, Break, BranchIf, Barrier, Load, Store, Get, Put}
-use Rattle.isa_step.specs.Kinds.{kind_of}
+use Rattle.op_table.specs.declared.kinds.Kind.{Kind}
+use Rattle.op_table.specs.declared.kinds.Kind.TheVariants.{Add, Rsub, Compare, Multiply, Shift, Divide, Logic, FirstEqualByte, IsEqual, ShiftByOne, ExtendSign, MoveFrom, SetMsr, ClearMsr, Branch, Break, BranchIf, Barrier, Load, Store, Get, Put}
+use Rattle.op_table.specs.Table.{kind_of}
 use Rattle.isa_step.specs.Deeds.{Deed, Due, Does, Ends, Want, Goes, Homes, Gets, Puts, Reads, Writes, faults, raises, retires, stops}
 use Rattle.isa_step.specs.Due.{awake, by_item, by_room, due_by, due_with, is_closed, reply, take_due}
 use Rattle.isa_step.specs.Arithmetic.{cause_of, divided}
@@ -37,9 +38,10 @@ use Rattle.isa_step.specs.Special.{is_sleep}
 use Rattle.isa_step.specs.Links.{checked, gets_from, got_or_seen, is_nonblocking, is_raised, marked, passed, port_of, puts_to}
 use Rattle.isa_step.specs.Loads.{address, is_aligned, is_word, keeps, loads, loads_at, loads_from, loads_past, lowered, no_data, read_from_bus, stores, stores_at, stores_past, unaligned, written_to_bus}
 use Rattle.isa_step.specs.Shown.{Shown}
-use Rattle.isa_step.specs.Wants.{belongs_into_slot, comes_home, deed_of, effect, given, illegal, is_banned, is_end, late_at, latency_of, wants, wants_kind}
+use Rattle.isa_step.specs.Wants.{comes_home, deed_of, effect, given, illegal, is_banned, is_end, late_at, wants, wants_kind}
+use Rattle.op_table.specs.Kinds.{belongs_into_slot, latency_of}
 use Rattle.act_laws.specs.Lateness.{IsLateWrite, Retires, WritesAreLate, here_is}
-use Rattle.act_laws.proofs.Stores.{late_is_no_store, stores_agree}
+use Rattle.act_laws.proofs.Stores.{late_is_no_store}
 
 -- a deed that retires an instruction makes its rD late, and writes it or nothing
 pub record IsOwn (kind : Kind) (g : Given) (d : Deed) : Type 0 where
@@ -325,7 +327,7 @@ late_write i o a deed w r h own =
       latency = l.0;
       has_latency = l.1;
       late = own.late r ∙ late_of i o a ∙ late ∙ ap (λ n. Some (late_reg n l.0)) reg;
-      named = written_some i some (stores_agree i.op ∙ late_is_no_store (kind_of i.op) (own.has w r h)) ∙ ap Some reg;
+      named = written_some i some (late_is_no_store (kind_of i.op) (own.has w r h)) ∙ ap Some reg;
     }
 
 late_write_by : (i : Instr) (word : ℕ) (o : Operands) (a : Arch) (m : List ℕ) (s : Shown) (deed : Deed) (w : Write) (b : Bool) → is_end word a ≡ b → Retires i word o a m s deed → deed.done.write ≡ Some w → IsLateWrite i deed w

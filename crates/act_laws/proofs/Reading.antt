@@ -8,22 +8,24 @@ use Rattle.core_regs.specs.declared.causes.StopCause.TheVariants as stop
 use Rattle.core_regs.specs.declared.causes.Take.{Take}
 use Rattle.core_regs.specs.State.{reg}
 use Rattle.mb_decode.specs.declared.instruction.Instr.{Instr}
-use Rattle.mb_decode.specs.Registers.{is_store, reads, reads_a, reads_b}
+use Rattle.op_table.specs.Table.{is_store}
+use Rattle.mb_decode.specs.Registers.{reads, reads_a, reads_b}
 use Rattle.isa_step.specs.declared.acts.Here.{Here}
 use Rattle.isa_step.specs.declared.acts.Operands.{Operands}
 use Rattle.isa_step.specs.declared.supplying.Given.{Given}
-use Rattle.isa_step.specs.declared.kinds.Kind.{Kind}
-use Rattle.isa_step.specs.declared.kinds.Kind.TheVariants.{Add, Store}
-use Rattle.isa_step.specs.declared.kinds.Second.{Second}
-use Rattle.isa_step.specs.declared.kinds.Second.TheVariants.{Register, Immediate, Count}
+use Rattle.op_table.specs.declared.kinds.Kind.{Kind}
+use Rattle.op_table.specs.declared.kinds.Kind.TheVariants.{Add, Store}
+use Rattle.op_table.specs.declared.kinds.Second.{Second}
+use Rattle.op_table.specs.declared.kinds.Second.TheVariants.{Register, Immediate, Count}
 use Rattle.isa_step.specs.Deeds.{Want, Goes, Homes, stops}
 use Rattle.isa_step.specs.Due.{awake, due_by, due_with, reply, take_due}
-use Rattle.isa_step.specs.Kinds.{kind_of, second_of}
+use Rattle.op_table.specs.Table.{kind_of, second_of}
 use Rattle.isa_step.specs.Shown.{Shown}
-use Rattle.isa_step.specs.Wants.{belongs_into_slot, comes_home, deed_of, effect, given, illegal, is_banned, is_end, second_value, wants, wants_kind}
+use Rattle.isa_step.specs.Wants.{comes_home, deed_of, effect, given, illegal, is_banned, is_end, second_value, wants, wants_kind}
+use Rattle.op_table.specs.Kinds.{belongs_into_slot}
 use Rattle.act_laws.specs.Lateness.{here_is}
 use Rattle.act_laws.specs.Reading.{AgreesOn, ReadsAreNamed}
-use Rattle.act_laws.proofs.Stores.{is_storing, stores_agree}
+use Rattle.op_table.specs.Kinds.{stores}
 
 with_d : Operands → ℕ → Operands
 with_d o x = record { a = o.a; b = o.b; d = x }
@@ -38,7 +40,7 @@ unfolding deed_of given_d
 deed_same (Add with_carry keep) g x a = refl
 deed_same _ g x a = refl
 
-effect_same : (kind : Kind) (g : Given) (x : ℕ) (a : Arch) (m : List ℕ) → is_storing kind ≡ false → effect kind (given_d g x) a m ≡ effect kind g a m
+effect_same : (kind : Kind) (g : Given) (x : ℕ) (a : Arch) (m : List ℕ) → stores kind ≡ false → effect kind (given_d g x) a m ≡ effect kind g a m
 unfolding effect deed_of given_d
 effect_same (Store size) g x a m h = cc
 effect_same _ g x a m h = refl
@@ -62,14 +64,14 @@ placed kind i word a w =
     else if is_some a.slot && not (belongs_into_slot kind) then Goes (stops a (stop.Slot word) None)
     else w
 
-kind_same : (kind : Kind) (i : Instr) (word : ℕ) (o : Operands) (x : ℕ) (a : Arch) (m : List ℕ) → is_storing kind ≡ false → wants_kind kind i word (with_d o x) a m ≡ wants_kind kind i word o a m
+kind_same : (kind : Kind) (i : Instr) (word : ℕ) (o : Operands) (x : ℕ) (a : Arch) (m : List ℕ) → stores kind ≡ false → wants_kind kind i word (with_d o x) a m ≡ wants_kind kind i word o a m
 kind_same kind i word o x a m h =
     let e : effect kind (given i (with_d o x) a) a m ≡ effect kind (given i o a) a m = ap (λ g. effect kind g a m) (given_same i o a x) ∙ effect_same kind (given i o a) x a m h in
     ap (placed kind i word a) e
 
 wants_same : (i : Instr) (word : ℕ) (o : Operands) (x : ℕ) (a : Arch) (m : List ℕ) → is_store i.op ≡ false → wants (Some (here_is word i)) (with_d o x) a m ≡ wants (Some (here_is word i)) o a m
 unfolding wants
-wants_same i word o x a m h = ap (λ (w : Want). if is_end word a then Homes (comes_home a) else w) (kind_same (kind_of i.op) i word o x a m (sym (stores_agree i.op) ∙ h))
+wants_same i word o x a m h = ap (λ (w : Want). if is_end word a then Homes (comes_home a) else w) (kind_same (kind_of i.op) i word o x a m h)
 
 -- the outcome is that of what is asked
 

@@ -6,13 +6,14 @@ use Rattle.mb_decode.specs.declared.instruction.Instr.{Instr}
 use Rattle.mb_decode.specs.Registers.{written}
 use Rattle.isa_step.specs.declared.acts.Act.TheVariants.{Retired}
 use Rattle.isa_step.specs.declared.acts.Here.{Here}
-use Rattle.isa_step.specs.declared.acts.Latency.{Latency}
+use Rattle.op_table.specs.declared.kinds.Latency.{Latency}
 use Rattle.isa_step.specs.declared.acts.Operands.{Operands}
 use Rattle.isa_step.specs.Deeds.{Deed, Does}
 use Rattle.isa_step.specs.Due.{due_with}
-use Rattle.isa_step.specs.Kinds.{kind_of}
+use Rattle.op_table.specs.Table.{kind_of}
 use Rattle.isa_step.specs.Shown.{Shown}
-use Rattle.isa_step.specs.Wants.{is_end, late_at, latency_of}
+use Rattle.isa_step.specs.Wants.{is_end, late_at}
+use Rattle.op_table.specs.Kinds.{latency_of}
 
 abbrev pub here_is : ℕ → Instr → Here
 here_is word i = record { word = word; instr = Some i }

@@ -24,9 +24,9 @@ use Rattle.isa_step.specs.declared.acts.Action.TheVariants.{ReadRefused, WriteRe
 use Rattle.isa_step.specs.declared.acts.Here.{Here}
 use Rattle.isa_step.specs.declared.acts.Operands.{Operands}
 use Rattle.isa_step.specs.declared.supplying.Given.{Given}
-use Rattle.isa_step.specs.declared.kinds.Kind.{Kind}
-use Rattle.isa_step.specs.declared.kinds.Kind.TheVariants.{Divide, BranchIf, Barrier, Load, Store, Get, Put}
-use Rattle.isa_step.specs.Kinds.{kind_of}
+use Rattle.op_table.specs.declared.kinds.Kind.{Kind}
+use Rattle.op_table.specs.declared.kinds.Kind.TheVariants.{Divide, BranchIf, Barrier, Load, Store, Get, Put}
+use Rattle.op_table.specs.Table.{kind_of}
 use Rattle.isa_step.specs.Deeds.{View, Deed, Due, Does, Ends, Want, Goes, Homes, Gets, Puts, Reads, Writes, after_store, faults, raises, stops}
 use Rattle.isa_step.specs.Due.{awake, by_item, by_room, due, due_by, due_with, here_of, is_closed, reply, take_due}
 use Rattle.isa_step.specs.Arithmetic.{divided}
@@ -35,7 +35,8 @@ use Rattle.isa_step.specs.Special.{is_sleep}
 use Rattle.isa_step.specs.Links.{gets_from, is_nonblocking, is_raised, port_of, puts_to}
 use Rattle.isa_step.specs.Loads.{address, is_aligned, keeps, loads, loads_at, loads_from, loads_past, lowered, no_data, read_from_bus, stores, stores_at, stores_past, unaligned, written_to_bus}
 use Rattle.isa_step.specs.Shown.{Shown}
-use Rattle.isa_step.specs.Wants.{belongs_into_slot, comes_home, deed_of, effect, given, illegal, is_banned, is_end, operands_of, wants, wants_instr, wants_kind}
+use Rattle.isa_step.specs.Wants.{comes_home, deed_of, effect, given, illegal, is_banned, is_end, operands_of, wants, wants_instr, wants_kind}
+use Rattle.op_table.specs.Kinds.{belongs_into_slot}
 use Rattle.machine_laws.specs.Silence.{LoudActsKeepMemory, is_silent}
 
 -- the deed leaves a memory as it was

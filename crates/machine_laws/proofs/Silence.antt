@@ -18,9 +18,9 @@ use Rattle.isa_step.specs.declared.acts.Action.{Action}
 use Rattle.isa_step.specs.declared.acts.Here.{Here}
 use Rattle.isa_step.specs.declared.acts.Operands.{Operands}
 use Rattle.isa_step.specs.declared.supplying.Given.{Given}
-use Rattle.isa_step.specs.declared.kinds.Kind.{Kind}
-use Rattle.isa_step.specs.declared.kinds.Kind.TheVariants.{Add, Rsub, Divide, BranchIf, Barrier, Load, Store, Get, Put}
-use Rattle.isa_step.specs.Kinds.{kind_of}
+use Rattle.op_table.specs.declared.kinds.Kind.{Kind}
+use Rattle.op_table.specs.declared.kinds.Kind.TheVariants.{Add, Rsub, Divide, BranchIf, Barrier, Load, Store, Get, Put}
+use Rattle.op_table.specs.Table.{kind_of}
 use Rattle.isa_step.specs.Deeds.{View, Deed, Due, Does, Ends, Want, Goes, Homes, Gets, Puts, Reads, Writes, faults, raises, retires, stops}
 use Rattle.delay_imm.specs.Slots.{advanced}
 use Rattle.isa_step.specs.Due.{awake, due, due_by, due_with, here_of, is_closed, reply, take_due, takes}
@@ -29,7 +29,8 @@ use Rattle.isa_step.specs.Branches.{branches_if, holds}
 use Rattle.isa_step.specs.Special.{barrier, is_sleep}
 use Rattle.isa_step.specs.Loads.{address, is_aligned, is_word, keeps, loads, loads_at, loads_from, loads_past, lowered, no_data, stores, stores_at, stores_past, unaligned}
 use Rattle.isa_step.specs.Shown.{Shown}
-use Rattle.isa_step.specs.Wants.{deed_of, effect, given, wants, wants_instr, wants_kind, is_banned, is_end, belongs_into_slot, illegal, comes_home, operands_of}
+use Rattle.isa_step.specs.Wants.{deed_of, effect, given, wants, wants_instr, wants_kind, is_banned, is_end, illegal, comes_home, operands_of}
+use Rattle.op_table.specs.Kinds.{belongs_into_slot}
 use Rattle.isa_step.specs.History.{answered, deed_told, exactly}
 use Rattle.isa_step.proofs.Telling.{is_told}
 use Rattle.board_machine.proofs.Lists.{and_left, none_is}
