@@ -10,10 +10,10 @@ ready_of depth Single = 1
 ready_of depth Multiply = if depth == 0 then 1 else if depth == 5 then 4 else 2
 ready_of depth Load = if depth == 0 then 1 else if depth == 5 then 5 else 2
 
--- the ticks from which the registers can be used, after an act in a tick
+-- the ticks from which the registers can be used, after an act in a tick: on a plain core no register is late
 abbrev pub marked : ℕ → ℕ → Option Late → List ℕ → List ℕ
 marked depth tick None ready = ready
-marked depth tick (Some l) ready = slice_set ready l.reg (tick + ready_of depth l.latency)
+marked depth tick (Some l) ready = if depth == 0 then ready else slice_set ready l.reg (tick + ready_of depth l.latency)
 
 -- the depth of a core, its acts and ticks so far, and the tick from which each register can be used
 pub record Times : Type 0 where

@@ -1,6 +1,8 @@
 //! The time of a core.
 
-ghost use Rattle.std.specs.Prelude.{◌≡◌, ◌<◌, ◌≤◌, ◌^◌, ◌-◌, IfSome, replicate, slice_index};
+ghost use Rattle.std.specs.Prelude.{◌≡◌, ◌<◌, ◌≤◌, ◌^◌, ◌-◌, ◌+◌, IfSome, replicate, slice_index};
+ghost use Rattle.std.specs.Prelude.{Option};
+ghost use Rattle.isa_step.specs.declared.acts.Late.{Late};
 ghost use Rattle.core_iface.specs.Pace.{moved, ready_of, stayed};
 
 use isa_step::{Late, Latency};
@@ -11,18 +13,20 @@ use std::marker::Model;
 pub struct Pace {
     depth: u8,
     acts: u64,
-    ticks: u64,
+    /// The ticks without an act.
+    stays: u64,
     ready: [u64; 32],
 }
 
 impl Model for Pace {
+    ghost use Rattle.std.specs.Prelude.{◌+◌, ◌^◌, ◌≤◌};
     ghost use Rattle.core_iface.specs.Pace.{Times, IsPaced};
 
     ghost Value = { Times };
 
-    ghost view = { λ p. record { depth = p.depth; acts = p.acts; ticks = p.ticks; ready = p.ready } };
+    ghost view = { λ p. record { depth = p.depth; acts = p.acts; ticks = p.acts + p.stays; ready = p.ready } };
 
-    ghost invariant = { λ p. IsPaced (record { depth = p.depth; acts = p.acts; ticks = p.ticks; ready = p.ready }) };
+    ghost invariant = { λ p. IsPaced (record { depth = p.depth; acts = p.acts; ticks = p.acts + p.stays; ready = p.ready }) × (p.acts + p.stays ≤ 2 ^ 62) };
 }
 
 /// After how many ticks the register of an instruction can be used.
@@ -53,7 +57,7 @@ impl Pace {
         Pace {
             depth,
             acts: 0,
-            ticks: 0,
+            stays: 0,
             ready: [0; 32],
         }
     }
@@ -70,7 +74,7 @@ impl Pace {
     pub fn ticks(&self) -> u64
         ensures { result ≡ self.now.ticks }
     {
-        self.ticks
+        self.acts + self.stays
     }
 
     /// In how many ticks a register can be used.
@@ -78,7 +82,7 @@ impl Pace {
         requires { reg < 32 }
         ensures { result ≡ slice_index self.now.ready reg - self.now.ticks }
     {
-        self.ready[reg as usize].saturating_sub(self.ticks) as u8
+        self.ready[reg as usize].saturating_sub(self.ticks()) as u8
     }
 
     /// Passes a tick without an act.
@@ -86,7 +90,20 @@ impl Pace {
         requires { self.old.ticks < 2 ^ 62 }
         ensures { self.new ≡ stayed self.old }
     {
-        self.ticks += 1;
+        self.stays += 1;
+    }
+
+    /// Passes a tick with an act on a plain core, which makes no register late.
+    #[inline(always)]
+    pub fn go(&mut self)
+        requires young { self.old.ticks < 2 ^ 62 }
+        requires plain { self.old.depth ≡ 0 }
+        ensures moved { (late : Option Late) → self.new ≡ moved late self.old }
+        ensures depth { self.new.depth ≡ 0 }
+        ensures ticks { self.new.ticks ≡ self.old.ticks + 1 }
+        ensures ready { self.new.ready ≡ self.old.ready }
+    {
+        self.acts += 1;
     }
 
     /// Passes a tick with an act that makes this register late.
@@ -95,11 +112,12 @@ impl Pace {
         requires late { IfSome late (λ l. l.reg < 32) }
         ensures { self.new ≡ moved late self.old }
     {
-        if let Some(late) = late {
+        if let Some(late) = late
+            && self.depth != 0
+        {
             let ready = ready_of(self.depth, late.latency);
-            self.ready[late.reg as usize] = self.ticks + u64::from(ready);
+            self.ready[late.reg as usize] = self.ticks() + u64::from(ready);
         }
         self.acts += 1;
-        self.ticks += 1;
     }
 }

@@ -1,0 +1,56 @@
+-- An instruction of an inner kind that stands in its place is done as its kind says.
+use Rattle.std.specs.Prelude.{◌≡◌, ℕ, ◌&&◌, not, Bool, true, false, List, Option, Some, None, is_some, if◌then◌else◌}
+use Rattle.std.proofs.Common.{refl, subst}
+use Rattle.core_regs.specs.declared.registers.Arch.{Arch}
+use Rattle.core_regs.specs.State.{bare, reg}
+use Rattle.mb_decode.specs.declared.instruction.Instr.{Instr}
+use Rattle.isa_step.specs.declared.acts.Operands.{Operands}
+use Rattle.isa_step.specs.declared.supplying.Given.{Given}
+use Rattle.op_table.specs.declared.kinds.Kind.{Kind}
+use Rattle.op_table.specs.declared.kinds.Kind.TheVariants.{Get, Put}
+use Rattle.op_table.specs.Table.{kind_of, second_of}
+use Rattle.isa_step.specs.Links.{is_nonblocking}
+use Rattle.isa_step.specs.Deeds.{View, Want}
+use Rattle.isa_step.specs.Wants.{belongs_into_slot, effect, given, is_banned, is_link, operands_by, second_value, wants_kind}
+use Rattle.prepared_act.specs.Prepared.{is_inner}
+use Rattle.prepared_act.specs.Retiring.{RetiresWant, supplied}
+
+other : (v w : View) (b : Bool) (x y : Want) → b ≡ false → RetiresWant y v w → RetiresWant (if b then x else y) v w
+other v w true x y e done = cc
+other v w false x y e done = done
+
+pub no_link : (kind : Kind) → is_inner kind ≡ true → is_link kind ≡ false
+unfolding is_inner
+no_link (Get dynamic) e = cc
+no_link (Put dynamic) e = cc
+no_link kind e = refl
+
+middle : (n l b : Bool) → l ≡ false → (n && l && b) ≡ false
+middle true true b e = cc
+middle true false b e = refl
+middle false l b e = refl
+
+placed : (kind : Kind) (i : Instr) (word : ℕ) (o : Operands) (a : Arch) (m : List ℕ) (v w : View)
+    → is_link kind ≡ false → (is_some a.slot && not (belongs_into_slot kind)) ≡ false
+    → RetiresWant (effect kind (given i o a) a m) v w → RetiresWant (wants_kind kind i word o a m) v w
+placed kind i word o a m v w link slot done =
+    other v w (is_banned i kind a.network) _ _ (middle a.network (is_link kind) (is_nonblocking i.flags) link)
+    (other v w (is_some a.slot && not (belongs_into_slot kind)) _ _ slot done)
+
+supplied_is_given : (i : Instr) (a : Arch) (x y : ℕ)
+    → x ≡ reg a.regs i.ra → y ≡ second_value (second_of i.op) (bare a) i (operands_by (Some i) a.regs)
+    → supplied i x y a ≡ given i (operands_by (Some i) a.regs) (bare a)
+unfolding given
+supplied_is_given i a x y ex ey = rw (ex, ey) refl
+
+pub in_place : (kind : Kind) (i : Instr) (word : ℕ) (a : Arch) (m : List ℕ) (x y : ℕ) (v w : View)
+    → kind ≡ kind_of i.op → is_inner (kind_of i.op) ≡ true
+    → x ≡ reg a.regs i.ra → y ≡ second_value (second_of i.op) (bare a) i (operands_by (Some i) a.regs)
+    → (is_some a.slot && not (belongs_into_slot kind)) ≡ false
+    → RetiresWant (effect kind (supplied i x y a) (bare a) m) v w
+    → RetiresWant (wants_kind (kind_of i.op) i word (operands_by (Some i) a.regs) (bare a) m) v w
+in_place kind i word a m x y v w is inner ex ey slot done =
+    placed (kind_of i.op) i word _ (bare a) m v w (no_link _ inner)
+    (subst (λ (k : Kind). (is_some a.slot && not (belongs_into_slot k)) ≡ false) is slot)
+    (subst (λ (k : Kind). RetiresWant (effect k (given i (operands_by (Some i) a.regs) (bare a)) (bare a) m) v w) is
+    (subst (λ (g : Given). RetiresWant (effect kind g (bare a) m) v w) (supplied_is_given i a x y ex ey) done))

@@ -1,0 +1,46 @@
+-- What can be told of a word before its act.
+use Rattle.std.specs.Prelude.{◌≡◌, ℕ, ◌==◌, ◌&&◌, not, Bool, true, false, Option, Some, None}
+use Rattle.mb_word.specs.Word.{sign_extend_16}
+use Rattle.mb_decode.specs.declared.instruction.Instr.{Instr}
+use Rattle.mb_decode.specs.Meaning.{NamesRegisters, meaning}
+use Rattle.isa_step.specs.declared.acts.Here.{Here}
+use Rattle.op_table.specs.declared.kinds.Kind.{Kind}
+use Rattle.op_table.specs.declared.kinds.Kind.TheVariants.{Divide, Cache, MoveFrom, MoveToMsr, SetMsr, ClearMsr, Break, Barrier, Return, Get, Put}
+use Rattle.op_table.specs.declared.kinds.Return.{Return as From}
+use Rattle.op_table.specs.declared.kinds.Return.TheVariants as ret
+use Rattle.op_table.specs.declared.kinds.Second.{Second}
+use Rattle.op_table.specs.declared.kinds.Second.TheVariants.{Register, Immediate, Count}
+use Rattle.op_table.specs.Table.{kind_of}
+
+-- the field of the second operand as it is used where no prefix is held
+abbrev pub extended_of : Second → ℕ → ℕ
+extended_of Register imm = sign_extend_16 imm
+extended_of Immediate imm = sign_extend_16 imm
+extended_of Count imm = imm
+
+abbrev pub is_return : From → Bool
+is_return ret.Subroutine = true
+is_return ret.Interrupt = false
+is_return ret.Break = false
+is_return ret.Exception = false
+
+-- the kinds that ask nothing of the outside and mostly just retire
+unfoldable pub is_inner : Kind → Bool
+is_inner (Divide signed) = false
+is_inner Cache = false
+is_inner (MoveFrom special) = false
+is_inner MoveToMsr = false
+is_inner SetMsr = false
+is_inner ClearMsr = false
+is_inner Break = false
+is_inner Barrier = false
+is_inner (Return from) = is_return from
+is_inner (Get dynamic) = false
+is_inner (Put dynamic) = false
+is_inner _ = true
+
+-- the word means the instruction, is not the end of a program, and its kind is inner
+pub record IsInner (word : ℕ) (i : Instr) : Type 0 where
+  pub meant : meaning word ≡ Some i
+  pub goes : (word == 0xB800_0000) ≡ false
+  pub kind : is_inner (kind_of i.op) ≡ true
