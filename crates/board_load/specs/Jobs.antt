@@ -16,14 +16,14 @@ use Rattle.elf_image.specs.declared.image.Part.{Part}
 use Rattle.host_io.specs.Outside.{Files}
 use Rattle.isa_step.specs.Deeds.{View}
 use Rattle.link_file.specs.File.{fault_in}
-use Rattle.board_load.specs.Files.{Holds}
+use Rattle.board_load.specs.Files.{Holds, board_limit, image_limit, input_limit}
 use Rattle.board_load.specs.Unbuilt.{names_journal, not_yet}
 
 -- The board.
 
 -- the file is the text of the board
 abbrev pub IsBoardIn : Option Files → List ℕ → BoardFile → Type 0
-IsBoardIn files file board = (text : List ℕ) × Holds files file 1048576 text × IsRead text board
+IsBoardIn files file board = (text : List ℕ) × Holds files file board_limit text × IsRead text board
 
 -- the file is the text of the board, the journal's file isn't one of the board's, and all its parts can be run
 pub record Passes (files : Option Files) (file : List ℕ) (journal : Option (List ℕ)) (board : BoardFile) : Type 0 where
@@ -51,7 +51,7 @@ IsFresh s = s ≡ made 0 0 s.view.arch s.view.memory
 
 -- the core's image file has these bytes, and no test of the image fails
 abbrev pub IsImageOf : Option Files → CoreRow → List ℕ → Type 0
-IsImageOf files row bytes = Holds files row.image 134217728 bytes × (first_failing (tests bytes row.memory) ≡ None)
+IsImageOf files row bytes = Holds files row.image image_limit bytes × (first_failing (tests bytes row.memory) ≡ None)
 
 -- a core begins so
 abbrev pub IsCoreOf : Option Files → Bool → CoreRow → View → Type 0
@@ -76,7 +76,7 @@ input_files links = flat_map (λ (link : LinkRow). file_at link.from) links
 
 -- an input file has these bytes, which are whole items with control 0 or 1
 abbrev pub IsInputOf : Option Files → List ℕ → List ℕ → Type 0
-IsInputOf files name bytes = Holds files name 4194304 bytes × (fault_in bytes ≡ None)
+IsInputOf files name bytes = Holds files name input_limit bytes × (fault_in bytes ≡ None)
 
 -- the bytes of each input file, in order
 abbrev pub AreInputsOf : Option Files → List (List ℕ) → List (List ℕ) → Type 0
