@@ -1,10 +1,10 @@
-ghost use Rattle.std.specs.Prelude.{◌≡◌, ◌++◌, ◌∷◌, [], drop, take, IfOk, OnOk};
+ghost use Rattle.std.specs.Prelude.{◌≡◌, ◌++◌, ◌∷◌, [], drop, IfOk, OnOk};
 ghost use Rattle.elf_image.specs.Elf.{part_of, parts_of};
 
 use crate::fault::NoMemory;
 use crate::image::{Part, Parts};
 use crate::segment::ProgramHeader;
-use host_io::Blob;
+use host_io::{Blob, first_of};
 use std::alloc::Global;
 
 const PF_X: u32 = 1;
@@ -14,17 +14,6 @@ fn rest_of(bytes: &[u8], at: usize) -> &[u8]
     ensures { result.now ≡ drop at bytes.now }
 {
     if bytes.len() <= at { &[] } else { &bytes[at..] }
-}
-
-/// The first `most` bytes, or all where there are fewer.
-fn first_of(bytes: &[u8], most: usize) -> &[u8]
-    ensures { result.now ≡ take most bytes.now }
-{
-    if bytes.len() <= most {
-        bytes
-    } else {
-        &bytes[..most]
-    }
 }
 
 /// What a segment loads.
