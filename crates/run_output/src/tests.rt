@@ -252,29 +252,3 @@ fn a_file_without_bytes_is_begun_by_one_call(rt: HostRuntime) -> Result<(), Fail
     assert_eq!(rt; shelf.content("none"), Some(b"".as_slice()));
     Ok(())
 }
-
-#[test]
-fn a_long_file_goes_by_chunks(rt: HostRuntime) -> Result<(), Fail> {
-    let alloc = rt.alloc();
-    let item = Item {
-        word: 0x0102_0304,
-        control: true,
-    };
-    let what = What::HostGot { link: 1, item };
-    let entry = Entry { what, ..ENTRIES[5] };
-    let entries = Vec::from_elem(alloc, entry, 14_000)?;
-    // The fourth call is the append of what is behind the first 65,536 bytes.
-    let failing = Vec::from_slice(alloc, &[Failing { call: 3, moved: 0 }])?;
-    let mut shelf = MemShelf::new(Vec::new(alloc), failing);
-    let file = refused(alloc, FORK, 14_000, &mut shelf, entries.as_slice())?;
-    assert_eq!(rt; name_of(&file), "out");
-    let first = shelf.content("out").ok_or("content")?;
-    assert_eq!(rt; first.len(), 65_536);
-    assert_eq!(rt; &first[65_534..], [4, 1].as_slice());
-    let file = refused(alloc, FORK, 14_000, &mut shelf, entries.as_slice())?;
-    assert_eq!(rt; name_of(&file), "");
-    let whole = shelf.content("out").ok_or("content")?;
-    assert_eq!(rt; whole.len(), 70_000);
-    assert_eq!(rt; &whole[65_534..65_541], [4, 1, 1, 2, 3, 4, 1].as_slice());
-    Ok(())
-}
