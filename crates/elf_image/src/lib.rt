@@ -3,8 +3,8 @@
 //! `read_elf` gives an `Image`: the byte order, the address of the first instruction, and the `Parts` that are loaded, each
 //! some bytes at an address with zeros after them. That an image fits into the memory, that its parts share no address and
 //! that it starts within one is proved. A file that fails a test is refused (`ElfFault`) by the code of the first that
-//! fails, 701 to 712, with an offset, an index or an address; what the codes mean is said at `read_elf`. `write_elf` gives the file of an image, which reads back
-//! (`written_files_read_back`).
+//! fails, 701 to 712, with an offset, an index or an address; what the codes mean is said at `read_elf`. `write_elf` gives
+//! the file of an image, which reads back (`written_files_read_back`).
 //!
 //! ```text
 //! let image = read_elf(rt.alloc(), file, 65_536)?;
