@@ -1,0 +1,6 @@
+pub mod Table
+pub mod Past
+pub mod Passing
+pub mod DueTick
+pub mod Early
+pub mod Laws
