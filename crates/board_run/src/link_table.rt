@@ -4,7 +4,7 @@ ghost use Rattle.board_machine.specs.Fabric.{is_port, link_from, link_to};
 ghost use Rattle.board_run.specs.LinkTable.{AreLinks, link_at};
 
 use board_file::{End, LinkRow};
-use run_journal::NoMemory;
+use host_io::NoMemory;
 use std::alloc::Global;
 use std::marker::Model;
 

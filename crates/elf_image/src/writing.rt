@@ -6,11 +6,10 @@ ghost use Rattle.elf_image.specs.declared.image.Part.{Part};
 ghost use Rattle.elf_image.specs.declared.writing.Field.TheVariants.{Half, Word};
 ghost use Rattle.elf_image.specs.Written.{ReadsBack, bytes_of, file_of, header, load, loads_of, spelled};
 
-use crate::fault::NoMemory;
 use crate::image::{Image, Part};
 use byteorder::{BigEndian, ByteOrder, LittleEndian};
 use core_regs::Order;
-use host_io::Blob;
+use host_io::{Blob, NoMemory};
 use std::alloc::Global;
 
 /// A field of a file: a number of one, two or four bytes.

@@ -4,7 +4,7 @@ ghost use Rattle.link_file.specs.File;
 ghost use Rattle.run_journal.specs.Files;
 
 use axi_link::Item;
-use run_journal::NoMemory;
+use host_io::NoMemory;
 use std::alloc::Global;
 
 /// The bytes of an item: its control byte, and those of its word.

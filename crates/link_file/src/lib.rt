@@ -14,7 +14,7 @@ mod law;
 
 pub use file::{fault_in, item_bytes, read_items};
 pub use law::{faults_break_files, files_are_read_back, files_hold_their_items};
-pub use run_journal::NoMemory;
+pub use host_io::NoMemory;
 
 #[cfg(test)]
 mod tests;

@@ -1,4 +1,4 @@
-// Worked boards, from their files in memory to what is written and printed.
+//! Worked boards, from their files in memory to what is written and printed.
 use crate::tests::{assembled, plan};
 use crate::top::mbsim;
 use host_io::{FileName, MemFile, MemShelf, MemSink, MemSource};

@@ -1,4 +1,8 @@
 //! An emulator of MicroBlaze boards: `mbsim run BOARD`, and `mbsim raw FILE CYCLES` for one core.
+//!
+//! `mbsim` (in `top`) is the program without its outside: it does what the words say on any shelf of files and any streams,
+//! and answers a `Status`. `run` and `raw` do the two commands; `tell` makes the line of a status for standard error. `main`
+//! hands on the words of the process, its files and its streams, and ends with the number of the status.
 #![tactic(auto)]
 
 #[cfg(test)]

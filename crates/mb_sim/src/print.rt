@@ -1,4 +1,4 @@
-// Printing the items that left.
+//! Printing the items that left.
 ghost use Rattle.std.specs.Prelude.{◌≡◌, slice_get};
 ghost use Rattle.host_io.specs.Outside.{Adds};
 ghost use Rattle.mb_sim.specs.Lines.{line_of};

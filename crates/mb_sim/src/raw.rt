@@ -1,4 +1,4 @@
-// `raw`: a flat image on a board of one plain core, whose port 0 leads to the output.
+//! `raw`: a flat image on a board of one plain core, whose port 0 leads to the output.
 ghost use Rattle.std.specs.Prelude.{◌≡◌, ◌≤◌, ◌∷◌, [], IfErr, IfOk, IfSome, OnOk, codes, length};
 ghost use Rattle.mb_sim.specs.Raw.{IsRawStart, memory_of, raw_board, raw_core, raw_link, raw_view};
 ghost use Rattle.mb_sim.specs.Runs.{IsRunOf};

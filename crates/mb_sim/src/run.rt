@@ -1,4 +1,4 @@
-// `run`: a board with its images and input files, to its output files, journal and report.
+//! `run`: a board with its images and input files, to its output files, journal and report.
 ghost use Rattle.std.specs.Prelude.{◌≡◌, ◌≤◌, IfSome, Ok, codes, length, map, slice_get};
 ghost use Rattle.core_iface.specs.Plain.{plain_state};
 ghost use Rattle.board_machine.specs.Cycles.{CanRun};

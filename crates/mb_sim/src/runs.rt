@@ -1,4 +1,4 @@
-// The status of a run's end.
+//! The status of a run's end.
 ghost use Rattle.std.specs.Prelude.{◌≡◌};
 ghost use Rattle.mb_sim.specs.Runs.{status_of};
 

@@ -1,4 +1,4 @@
-// What the program answers.
+//! What the program answers.
 ghost use Rattle.std.specs.Prelude.{◌≡◌};
 ghost use Rattle.mb_sim.specs.Runs.{code_of};
 

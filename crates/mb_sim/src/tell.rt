@@ -1,4 +1,4 @@
-// The line that a status writes to the error stream.
+//! The line that a status writes to the error stream.
 ghost use Rattle.std.specs.Prelude.{◌≡◌, ◌+◌, ◌≤◌, length};
 ghost use Rattle.mb_sim.specs.Lines.{line_with, told};
 ghost use Rattle.mb_sim.specs.Top.{IsTold};

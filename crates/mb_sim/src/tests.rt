@@ -1,4 +1,4 @@
-// Worked rows, over files and streams in memory.
+//! Worked rows, over files and streams in memory.
 ghost use Rattle.std.specs.Prelude.{None};
 
 use crate::top::mbsim;

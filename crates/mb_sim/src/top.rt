@@ -1,4 +1,4 @@
-// The top call: all that the program does.
+//! The top call: all that the program does.
 ghost use Rattle.std.specs.Prelude.{◌≡◌, ◌<◌, ◌≤◌, None, Option, Some, List, ℕ, map, length};
 ghost use Rattle.command_words.specs.Words.{command_of};
 ghost use Rattle.command_words.specs.declared.command.Command.TheVariants.{Raw as RawWords, Run as RunOf};

@@ -1,4 +1,4 @@
-// Output files, written by chunks through one buffer.
+//! Output files, written by chunks through one buffer.
 ghost use Rattle.std.specs.Prelude.{◌≡◌, ◌+◌, ◌≤◌, IfOk, List, ℕ, [], ◌++◌, flat_map, length};
 ghost use Rattle.host_io.specs.Outside.{Appends, ShelfState};
 ghost use Rattle.run_output.specs.Stored.{Continues, IsWriting, Wrote};
@@ -8,17 +8,13 @@ ghost use Rattle.run_output.specs.Threads.{Knows, Lie, file_of, through};
 use crate::pieces::{Exit, Lines, Pieces};
 use crate::threads::Threads;
 use board_file::BoardFile;
-use host_io::{FileName, Shelf, StoreFault};
+use host_io::{FileName, NoMemory, Shelf, StoreFault};
 use run_journal::Entry;
 use std::alloc::Global;
 use std::marker::Model;
 
 /// The most bytes that one call of a shelf is given.
 const SIZE: usize = 65_536;
-
-/// There was no memory for the buffer.
-#[derive(Clone, Copy, Debug, PartialEq, Eq)]
-pub struct NoMemory;
 
 /// The writer of output files: a buffer of 65,536 bytes. It means the bytes that wait in it.
 ///
@@ -44,7 +40,7 @@ impl Chunks {
     pub fn reserve(alloc: Global) -> Result<Chunks, NoMemory>
         ensures { IfOk result (λ chunks. chunks ≡ []) }
     {
-        let bytes = Vec::with_capacity(alloc, SIZE).map_err(|_| NoMemory)?;
+        let bytes = Vec::with_capacity(alloc, SIZE)?;
         Ok(Chunks { bytes })
     }
 

@@ -1,4 +1,4 @@
-// All files of a run, in order.
+//! All files of a run, in order.
 ghost use Rattle.std.specs.Prelude.{◌≡◌, ◌+◌, ◌≤◌, [], ◌∷◌, List, ℕ, flat_map, length};
 ghost use Rattle.std.specs.List.{enumerate_from};
 ghost use Rattle.host_io.specs.Outside.{ShelfState};

@@ -1,4 +1,4 @@
-// A law about files that are written in order.
+//! A law about files that are written in order.
 ghost use Rattle.run_output.specs.Outputs.{WritingsAreTold};
 
 /// Files of different names that are written in order: those before the one that is refused are whole, that one is as

@@ -1,16 +1,16 @@
-// What a run of a board puts out, and the memory for it.
+//! What a run of a board puts out, and the memory for it.
 ghost use Rattle.std.specs.Prelude.{◌≡◌, IfOk, length};
 ghost use Rattle.host_io.specs.Outside.{Adds};
 ghost use Rattle.run_output.specs.Outputs.{WroteOutputs, outputs_of};
 ghost use Rattle.run_output.specs.Report.{report_text};
 
-use crate::chunks::{Chunks, NoMemory};
+use crate::chunks::Chunks;
 use crate::print::print_report;
 use crate::report::CoreEnds;
 use crate::tally::Tally;
 use crate::threads::Threads;
 use board_file::BoardFile;
-use host_io::{FileName, Shelf, Sink, StoreFault};
+use host_io::{FileName, NoMemory, Shelf, Sink, StoreFault};
 use run_journal::Journal;
 use std::alloc::Global;
 use std::marker::Model;

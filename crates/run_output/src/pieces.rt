@@ -1,4 +1,4 @@
-// What each entry of a journal adds to a file.
+//! What each entry of a journal adds to a file.
 ghost use Rattle.std.specs.Prelude.{◌≡◌, List, ℕ};
 ghost use Rattle.run_journal.specs.declared.entry.Entry.{Entry};
 ghost use Rattle.run_journal.specs.Files.{bytes_got, bytes_left};

@@ -1,4 +1,4 @@
-// Printing a report, line by line.
+//! Printing a report, line by line.
 ghost use Rattle.std.specs.Prelude.{◌≡◌, flat_map, length};
 ghost use Rattle.std.specs.List.{enumerate_from};
 ghost use Rattle.host_io.specs.Outside.{Adds};

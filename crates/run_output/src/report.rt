@@ -1,4 +1,4 @@
-// The lines of a report.
+//! The lines of a report.
 ghost use Rattle.std.specs.Prelude.{◌≡◌, ◌<◌, ℕ};
 ghost use Rattle.run_output.specs.Report.{core_line, end_words, link_line, status_line, uart_line};
 

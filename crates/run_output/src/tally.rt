@@ -1,9 +1,9 @@
-// What the entries of a run tell of its links and UARTs, counted.
+//! What the entries of a run tell of its links and UARTs, counted.
 ghost use Rattle.std.specs.Prelude.{◌≡◌, ◌+◌, ◌≤◌, ◌<◌, IfOk, List, ℕ, get_or, length, set};
 ghost use Rattle.board_file.specs.declared.board.LinkRow.{LinkRow};
 ghost use Rattle.run_output.specs.Tally.{Covers, Few, Fit, HasByte, Reaches, ReachesAll, IsTally, cleared, counted, place_of, port_count, sent_of, taken_of};
 
-use crate::chunks::NoMemory;
+use host_io::NoMemory;
 use board_file::{End, LinkRow};
 use run_journal::{Entry, What};
 use std::alloc::Global;
@@ -49,11 +49,11 @@ impl Tally {
     {
         let (ports, links) = (places(links), links.len());
         Ok(Tally {
-            sent: vec![in alloc; 0; ports].map_err(|_| NoMemory)?,
-            got: vec![in alloc; 0; ports].map_err(|_| NoMemory)?,
-            host_sent: vec![in alloc; 0; links].map_err(|_| NoMemory)?,
-            host_got: vec![in alloc; 0; links].map_err(|_| NoMemory)?,
-            left: vec![in alloc; 0; uarts].map_err(|_| NoMemory)?,
+            sent: vec![in alloc; 0; ports]?,
+            got: vec![in alloc; 0; ports]?,
+            host_sent: vec![in alloc; 0; links]?,
+            host_got: vec![in alloc; 0; links]?,
+            left: vec![in alloc; 0; uarts]?,
         })
     }
 

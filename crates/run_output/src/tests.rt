@@ -1,4 +1,4 @@
-// The lines of reports, and files over a shelf in memory.
+//! The lines of reports, and files over a shelf in memory.
 use crate::report::{core_line, link_line, status_line, uart_line};
 use crate::{CoreEnd, CoreEnds, OutputFault, Outputs};
 use axi_link::Item;

@@ -1,8 +1,8 @@
-// Threads through the entries of a run: from what left through one exit to what left through it next.
+//! Threads through the entries of a run: from what left through one exit to what left through it next.
 ghost use Rattle.std.specs.Prelude.{◌≡◌, ◌+◌, ◌-◌, ◌<◌, ◌≤◌, IfOk, [], get_or, length, replicate, set};
 ghost use Rattle.run_output.specs.Threads.{Lie, bare, head_of, headed, next_of, threaded};
 
-use crate::chunks::NoMemory;
+use host_io::NoMemory;
 use crate::pieces::Exit;
 use run_journal::{Entry, What};
 use std::alloc::Global;
@@ -45,9 +45,9 @@ impl Threads {
         ensures { IfOk result (λ t. t ≡ record { links = replicate links 0; uarts = replicate uarts 0; next = []; room = room }) }
     {
         Ok(Threads {
-            links: vec![in alloc; 0; links].map_err(|_| NoMemory)?,
-            uarts: vec![in alloc; 0; uarts].map_err(|_| NoMemory)?,
-            next: Vec::with_capacity(alloc, room as usize).map_err(|_| NoMemory)?,
+            links: vec![in alloc; 0; links]?,
+            uarts: vec![in alloc; 0; uarts]?,
+            next: Vec::with_capacity(alloc, room as usize)?,
             room,
         })
     }
