@@ -13,7 +13,7 @@ use Rattle.isa_step.specs.Shown.{Shown}
 use Rattle.isa_step.specs.Deeds.{View, Want, Goes, Homes, Gets, Puts, Reads, Writes}
 use Rattle.isa_step.specs.Due.{awake, due_by, due_with, is_masked, met, pick, reply, take_by, take_due}
 use Rattle.delay_imm.specs.Slots.{may_take}
-use Rattle.isa_step.specs.Wants.{is_atomic_here, operands_by, wants, wants_instr, wants_kind}
+use Rattle.isa_step.specs.Wants.{is_atomic_here, operands_by, wants, wants_kind}
 use Rattle.prepared_act.specs.Prepared.{IsInner}
 use Rattle.prepared_act.specs.Retiring.{Retires, RetiresDue, RetiresWant, is_offered, view_of}
 

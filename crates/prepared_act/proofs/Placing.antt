@@ -1,5 +1,5 @@
 -- An instruction of an inner kind that stands in its place is done as its kind says.
-use Rattle.std.specs.Prelude.{◌≡◌, ℕ, ◌&&◌, not, Bool, true, false, List, Option, Some, None, is_some, if◌then◌else◌}
+use Rattle.std.specs.Prelude.{◌≡◌, ℕ, ◌&&◌, not, Bool, true, false, List, Some, is_some, if◌then◌else◌}
 use Rattle.std.proofs.Common.{refl, subst}
 use Rattle.core_regs.specs.declared.registers.Arch.{Arch}
 use Rattle.core_regs.specs.State.{bare, reg}

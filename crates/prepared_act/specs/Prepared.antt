@@ -1,10 +1,9 @@
 -- What can be told of a word before its act.
-use Rattle.std.specs.Prelude.{◌≡◌, ℕ, ◌==◌, ◌&&◌, not, Bool, true, false, Option, Some, None}
+use Rattle.std.specs.Prelude.{◌≡◌, ℕ, ◌==◌, Bool, true, false, Some}
 use Rattle.mb_word.specs.Word.{sign_extend_16}
 use Rattle.mb_decode.specs.declared.instruction.Instr.{Instr}
-use Rattle.mb_decode.specs.Meaning.{NamesRegisters, meaning}
+use Rattle.mb_decode.specs.Meaning.{meaning}
 use Rattle.isa_step.specs.Wants.{end_word}
-use Rattle.isa_step.specs.declared.acts.Here.{Here}
 use Rattle.op_table.specs.declared.kinds.Kind.{Kind}
 use Rattle.op_table.specs.declared.kinds.Kind.TheVariants.{Divide, Cache, MoveFrom, MoveToMsr, SetMsr, ClearMsr, Break, Barrier, Return, Get, Put}
 use Rattle.op_table.specs.declared.kinds.Return.{Return as From}

@@ -1,5 +1,5 @@
 -- An act that asks nothing of the outside and retires.
-use Rattle.std.specs.Prelude.{◌≡◌, ℕ, ◌||◌, ◌&&◌, not, is_some, Bool, true, false, List, Option, Some, None}
+use Rattle.std.specs.Prelude.{◌≡◌, ℕ, ◌||◌, ◌&&◌, not, is_some, Bool, true, false, List, Option, None}
 use Rattle.core_regs.specs.declared.registers.Arch.{Arch}
 use Rattle.core_regs.specs.State.{bare, reg, written}
 use Rattle.mb_decode.specs.declared.instruction.Instr.{Instr}
