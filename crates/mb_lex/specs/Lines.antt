@@ -1,5 +1,5 @@
 -- The tokens of a line, as the code keeps them: places in the line.
-use Rattle.std.specs.Prelude.{◌≡◌, ℕ, ◌+◌, ◌-◌, ◌<◌, ◌≤◌, List, [], ◌∷◌, ◌++◌, take, drop, map, length, Result, Ok, Err, Option, None, Some, ℤ}
+use Rattle.std.specs.Prelude.{◌≡◌, ℕ, zero, suc, Bool, true, false, if◌then◌else◌, ◌+◌, ◌-◌, ◌<◌, ◌≤◌, List, [], ◌∷◌, ◌++◌, take, drop, map, length, Result, Ok, Err, Option, None, Some, ℤ}
 use Rattle.mb_lex.specs.declared.token.LexFault.{LexFault}
 use Rattle.mb_lex.specs.declared.token.LexRule.{LexRule}
 use Rattle.mb_lex.specs.declared.token.LexRule.TheVariants.{BadLiteral, BadCharacter, TooManyTokens}
@@ -47,6 +47,15 @@ abbrev pub Munches : List ℕ → Result Munched LexRule → Type 0
 Munches text (Ok m) = ((munched text).lexeme ≡ lexeme_by (take m.len text) m.kind) × (m.len ≡ 1 + (munched text).more) × (m.len ≤ length text)
 Munches text (Err rule) = (munched text).lexeme ≡ Bad rule
 
+abbrev pub is_good : Lexeme → Bool
+is_good (Bad rule) = false
+is_good _ = true
+
+-- what a lexeme breaks for which there is no room
+abbrev pub rule_of : Lexeme → LexRule
+rule_of (Bad rule) = rule
+rule_of _ = TooManyTokens
+
 -- a token is added that begins at a place, and what follows it is still to be lexed
 pub record Adds (line : List ℕ) (at : ℕ) (old new : List Token) (next : ℕ) : Type 0 where
   pub token : Token
@@ -74,3 +83,18 @@ pub record IsRefused (line : List ℕ) (fault : LexFault) : Type 0 where
   pub tokens : List Token
   pub split : lex 0 0 line ≡ map (placed_of line) tokens ++ lex at 0 (drop at line)
   pub refuses : Refuses line at tokens fault
+
+-- the tokens with which a list of lexemes begins: those before the first bad one, at most so many
+unfoldable pub first_good : ℕ → List Placed → List Placed
+first_good room [] = []
+first_good zero (p ∷ ps) = []
+first_good (suc room) (p ∷ ps) = if is_good p.lexeme then p ∷ first_good room ps else []
+
+abbrev pub fault_at : Placed → LexRule → Option LexFault
+fault_at p rule = Some (record { code = code_of rule; column = p.place + 1 })
+
+-- the fault behind them: a bad lexeme, or a good one for which there is no room
+unfoldable pub first_fault : ℕ → List Placed → Option LexFault
+first_fault room [] = None
+first_fault zero (p ∷ ps) = fault_at p (rule_of p.lexeme)
+first_fault (suc room) (p ∷ ps) = if is_good p.lexeme then first_fault room ps else fault_at p (rule_of p.lexeme)

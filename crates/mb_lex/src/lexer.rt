@@ -1,11 +1,11 @@
-ghost use Rattle.std.specs.Prelude.{◌≡◌, ◌==◌, ◌<◌, ◌≤◌, ◌^◌, length, IfOk, IfErr, slice_index, false, map};
+ghost use Rattle.std.specs.Prelude.{◌≡◌, ◌==◌, ◌<◌, ◌≤◌, ◌^◌, length, IfOk, IfErr, IfSome, OnErr, None, slice_index, false, map};
 ghost use Rattle.mb_lex.specs.Bytes.{is_blank};
 ghost use Rattle.mb_lex.specs.Lexemes.{lex};
-ghost use Rattle.mb_lex.specs.Lines.{Adds, IsRefused, Refuses, placed_of};
+ghost use Rattle.mb_lex.specs.Lines.{Adds, IsRefused, Refuses, first_fault, first_good, placed_of};
 
 use crate::bytes::is_blank;
 use crate::munching::{Munched, munch, rest_of};
-use crate::token::{LexFault, LexRule, Token, Tokens};
+use crate::token::{LexFault, LexRule, Lexed, Token, Tokens};
 use arrayvec::ArrayVec;
 
 /// Adds the token that begins at `at`; the place behind it.
@@ -17,6 +17,7 @@ fn add_token(tokens: &mut ArrayVec<Token, 40>, line: &[u8], at: usize) -> Result
     ensures ok { IfOk result (λ next. Adds line.now at tokens.old.items tokens.new.items next) }
     ensures few { IfOk result (λ _. length tokens.new.items ≤ 40) }
     ensures err { IfErr result (λ fault. Refuses line.now at tokens.old.items fault) }
+    ensures kept { OnErr result (tokens.new.items ≡ tokens.old.items) }
 {
     let column = at as u32 + 1;
     match munch(rest_of(line, at)) {
@@ -42,12 +43,15 @@ fn add_token(tokens: &mut ArrayVec<Token, 40>, line: &[u8], at: usize) -> Result
     }
 }
 
-/// The tokens of a line, or its first fault: 1109 a bad literal, 1110 a byte outside the syntax, 1112 a 41st token. The
-/// line comes without the line feed that ends it, and without a carriage return directly before that.
-pub fn lex_line(line: &[u8]) -> Result<Tokens, LexFault>
+/// The tokens of a line, or those before its first fault with that fault: 1109 a bad literal, 1110 a byte outside the
+/// syntax, 1112 a 41st token. The line comes without the line feed that ends it, and without a carriage return directly
+/// before that.
+pub fn lex_start(line: &[u8]) -> Lexed
     requires { length line.now ≤ 2 ^ 22 }
-    ensures ok { IfOk result (λ tokens. map (placed_of line.now) tokens ≡ lex 0 0 line.now) }
-    ensures err { IfErr result (λ fault. IsRefused line.now fault) }
+    ensures tokens { map (placed_of line.now) result.tokens ≡ first_good 40 (lex 0 0 line.now) }
+    ensures fault { result.fault ≡ first_fault 40 (lex 0 0 line.now) }
+    ensures all { result.fault ≡ None → map (placed_of line.now) result.tokens ≡ lex 0 0 line.now }
+    ensures refused { IfSome result.fault (λ fault. IsRefused line.now fault) }
 {
     let mut items = ArrayVec::new();
     let mut at = 0;
@@ -56,10 +60,26 @@ pub fn lex_line(line: &[u8]) -> Result<Tokens, LexFault>
         if is_blank(byte) {
             at += 1;
         } else if byte == b'#' {
-            return Ok(Tokens { items });
+            return Lexed::whole(items);
         } else {
-            at = add_token(&mut items, line, at)?;
+            match add_token(&mut items, line, at) {
+                Ok(next) => at = next,
+                Err(fault) => return Lexed::broken(items, fault),
+            }
         }
     }
-    Ok(Tokens { items })
+    Lexed::whole(items)
+}
+
+/// The tokens of a line, or its first fault.
+pub fn lex_line(line: &[u8]) -> Result<Tokens, LexFault>
+    requires { length line.now ≤ 2 ^ 22 }
+    ensures ok { IfOk result (λ tokens. map (placed_of line.now) tokens ≡ lex 0 0 line.now) }
+    ensures err { IfErr result (λ fault. IsRefused line.now fault) }
+{
+    let Lexed { tokens, fault } = lex_start(line);
+    match fault {
+        None => Ok(tokens),
+        Some(fault) => Err(fault),
+    }
 }

@@ -10,5 +10,5 @@ mod tests;
 mod text;
 mod token;
 
-pub use lexer::lex_line;
-pub use token::{LexFault, LexRule, Token, TokenKind, Tokens};
+pub use lexer::{lex_line, lex_start};
+pub use token::{LexFault, LexRule, Lexed, Token, TokenKind, Tokens};

@@ -1,4 +1,4 @@
-use crate::{LexFault, Token, TokenKind, lex_line};
+use crate::{LexFault, Token, TokenKind, lex_line, lex_start};
 
 /// Whether a line has these tokens.
 fn reads_as(line: &[u8], expected: &[Token]) -> bool {
@@ -81,4 +81,7 @@ fn lines_have_their_first_fault(rt: HostRuntime) {
         assert!(rt; is_refused(line.as_bytes(), code, column), "{line}");
     }
     assert!(rt; matches!(lex_line(b",,,,,,,,,,,,,,,,,,,,,,,,,,,,,,,,,,,,,,,, # the end"), Ok(tokens) if tokens.len() == 40), "forty tokens");
+    let start = lex_start(b"x: nop 5x, y");
+    assert!(rt; start.tokens.len() == 3, "tokens before a fault");
+    assert!(rt; start.fault == Some(LexFault { code: 1109, column: 8 }), "a fault behind tokens");
 }

@@ -1,4 +1,4 @@
-ghost use Rattle.std.specs.Prelude.{◌≡◌, ◌≤◌, List, length, slice_get};
+ghost use Rattle.std.specs.Prelude.{◌≡◌, ◌≤◌, List, length, slice_get, None, Some};
 ghost use Rattle.mb_lex.specs.Lines.{code_of};
 ghost use Rattle.mb_lex.specs.declared.token.Token.{Token};
 
@@ -86,5 +86,39 @@ impl Tokens {
         ensures { result ≡ slice_get self.now k }
     {
         self.items.get(k).copied()
+    }
+}
+
+/// The tokens of a line up to its end, or up to its first fault.
+#[derive(Debug, Drop)]
+pub struct Lexed {
+    pub tokens: Tokens,
+    /// The fault behind the tokens.
+    pub fault: Option<LexFault>,
+}
+
+impl Lexed {
+    /// A line without fault.
+    pub(crate) fn whole(items: ArrayVec<Token, 40>) -> Self
+        requires { length items.items ≤ 40 }
+        ensures tokens { result.tokens ≡ items.items }
+        ensures fault { result.fault ≡ None }
+    {
+        Lexed {
+            tokens: Tokens { items },
+            fault: None,
+        }
+    }
+
+    /// A line with a fault.
+    pub(crate) fn broken(items: ArrayVec<Token, 40>, fault: LexFault) -> Self
+        requires { length items.items ≤ 40 }
+        ensures tokens { result.tokens ≡ items.items }
+        ensures fault { result.fault ≡ Some fault }
+    {
+        Lexed {
+            tokens: Tokens { items },
+            fault: Some(fault),
+        }
     }
 }

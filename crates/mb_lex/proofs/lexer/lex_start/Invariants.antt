@@ -2,7 +2,7 @@ use Rattle.std.proofs.Common.{◌≡◌, ◌-◌, ◌≤◌, ◌++◌, drop, len
 use Rattle.std.specs.Prelude.{map}
 use Rattle.mb_lex.specs.Lines.{placed_of}
 use Rattle.mb_lex.specs.Lexemes.{lex}
-use Rattle.mb_lex.proofs.lexer.lex_line.Given as goal
+use Rattle.mb_lex.proofs.lexer.lex_start.Given as goal
 
 abbrev pub invariant-loop-at : goal.invariant-loop-at
 invariant-loop-at l = record {

@@ -1,0 +1,9 @@
+pub mod Back
+pub mod Fields
+pub mod Known
+pub mod Lengths
+pub mod Lexing
+pub mod Literals
+pub mod Reading
+pub mod Streams
+pub mod Tails

@@ -1,0 +1,132 @@
+ghost use Rattle.std.specs.Prelude.{◌≡◌, ◌+◌, ◌<◌, ◌≤◌, ◌++◌, codes, length};
+ghost use Rattle.asm_syntax.specs.Operands.{hex_16, hex_digit, port_name, register_name, sign_16, slot_text};
+ghost use Rattle.mb_dis.specs.Statement.{operands_text, tail_text};
+
+use asm_syntax::{Slot, special_name};
+use host_io::{ShortText, Text};
+use itoa::Buffer;
+use mb_decode::Instr;
+use op_table::kind_of;
+
+/// The room of an operand.
+type OperandText = Text<12>;
+
+/// An upper-case digit.
+fn hex_digit(digit: u16) -> u8
+    requires { digit < 16 }
+    ensures { result ≡ hex_digit digit }
+{
+    if digit < 10 {
+        b'0' + digit as u8
+    } else {
+        b'A' - 10 + digit as u8
+    }
+}
+
+/// Four upper-case digits.
+#[tactic(auto, unfolding(asm_syntax::specs::Operands::hex_16))]
+pub fn hex_16(value: u16) -> [u8; 4]
+    ensures { result ≡ hex_16 value }
+{
+    [
+        hex_digit(value / 0x1000 % 16),
+        hex_digit(value / 0x100 % 16),
+        hex_digit(value / 0x10 % 16),
+        hex_digit(value % 16),
+    ]
+}
+
+/// 16 bits as a number with a sign.
+fn sign_16(value: u16) -> i32
+    ensures { result ≡ sign_16 value }
+{
+    if value < 0x8000 {
+        i32::from(value)
+    } else {
+        i32::from(value) - 0x1_0000
+    }
+}
+
+/// `r` and the number of a register.
+#[tactic(auto, unfolding(asm_syntax::specs::Operands::register_name))]
+fn register(number: u8) -> OperandText
+    ensures { result ≡ register_name number }
+{
+    let mut text = OperandText::new();
+    text.push(b"r");
+    text.push(Buffer::new().format(number).as_bytes());
+    text
+}
+
+/// `rfsl` and the number of a port.
+#[tactic(auto, unfolding(asm_syntax::specs::Operands::port_name))]
+fn port(number: u16) -> OperandText
+    ensures { result ≡ port_name number }
+{
+    let mut text = OperandText::new();
+    text.push(b"rfsl");
+    text.push(Buffer::new().format(number).as_bytes());
+    text
+}
+
+/// `0x` and four digits.
+fn upper(value: u16) -> OperandText
+    ensures { result ≡ codes "0x" ++ hex_16 value }
+{
+    let mut text = OperandText::new();
+    text.push(b"0x");
+    text.push(&hex_16(value));
+    text
+}
+
+/// A text of these bytes.
+fn of_bytes(bytes: &[u8]) -> OperandText
+    requires { length bytes.now ≤ 12 }
+    ensures { result ≡ bytes.now }
+{
+    OperandText::from_bytes(bytes)
+}
+
+/// How an operand of an instruction is written.
+#[tactic(auto, unfolding(asm_syntax::specs::Operands::slot_text, asm_syntax::specs::Names::special_of))]
+fn slot_text(slot: Slot, i: &Instr) -> OperandText
+    ensures { result ≡ slot_text slot i.now }
+{
+    match slot {
+        Slot::RegisterD => register(i.rd),
+        Slot::RegisterA => register(i.ra),
+        Slot::RegisterB => register(i.rb),
+        Slot::Value => of_bytes(Buffer::new().format(sign_16(i.imm)).as_bytes()),
+        Slot::Number { .. } => of_bytes(Buffer::new().format(i.imm).as_bytes()),
+        Slot::Upper => upper(i.imm),
+        Slot::Port => port(i.imm),
+        Slot::Special => of_bytes(special_name(kind_of(i.op))),
+    }
+}
+
+/// Adds operands, each behind a comma.
+fn add_tail(text: &mut ShortText, slots: &[Slot], i: &Instr)
+    requires few { length slots.now ≤ 2 }
+    requires room { length text.old ≤ 27 }
+    ensures { text.new ≡ text.old ++ tail_text slots.now i.now }
+{
+    for slot in slots {
+        text.push(b", ");
+        text.push(slot_text(*slot, i).as_bytes());
+    }
+}
+
+/// Adds operands, the first behind a space.
+#[tactic(auto, unfolding(crate::specs::Statement::operands_text))]
+pub fn add_operands(text: &mut ShortText, shape: &[Slot], i: &Instr)
+    requires few { length shape.now ≤ 3 }
+    requires room { length text.old ≤ 14 }
+    ensures { text.new ≡ text.old ++ operands_text shape.now i.now }
+{
+    let [first, rest @ ..] = shape else {
+        return;
+    };
+    text.push(b" ");
+    text.push(slot_text(*first, i).as_bytes());
+    add_tail(text, rest, i);
+}
