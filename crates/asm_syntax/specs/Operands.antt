@@ -1,5 +1,5 @@
 -- Operands: how each is written, and what it reads as.
-use Rattle.std.specs.Prelude.{ℕ, ◌+◌, ◌-◌, ◌/◌, ◌%◌, ◌^◌, nat_lt, ◌&&◌, List, [], ◌∷◌, ◌++◌, if◌then◌else◌, Option, None, Some, ℤ, pos, negsuc, bytes_eq, codes, find, decimal}
+use Rattle.std.specs.Prelude.{ℕ, ◌+◌, ◌-◌, ◌/◌, ◌%◌, ◌^◌, nat_lt, Bool, ◌&&◌, List, [], ◌∷◌, ◌++◌, if◌then◌else◌, Option, None, Some, ℤ, pos, negsuc, bytes_eq, codes, find, decimal}
 use Rattle.std.specs.Fmt.{signed_decimal}
 use Rattle.std.specs.Option.{option_map}
 use Rattle.std.specs.List.{range_with_len}
@@ -26,10 +26,13 @@ register_of word = find (λ r. bytes_eq (register_name r) word) (range_with_len 
 unfoldable pub port_of : List ℕ → Option ℕ
 port_of word = find (λ k. bytes_eq (port_name k) word) (range_with_len 0 16)
 
+-- a row has this name, and its instruction names this special register
+abbrev pub has_special : List ℕ → List ℕ → Row → Bool
+has_special name word r = bytes_eq (text_of r.name) name && bytes_eq (special_name r.kind) word
+
 -- the instruction of the same name that names this special register
 unfoldable pub with_special : Op → List ℕ → Option Op
-with_special name word =
-    option_map (λ (r : Row). r.op) (find (λ (r : Row). bytes_eq (text_of r.name) (name_of name) && bytes_eq (special_name r.kind) word) rows)
+with_special name word = option_map (λ (r : Row). r.op) (find (has_special (name_of name) word) rows)
 
 -- 16 bits as a number with a sign, and back
 abbrev pub sign_16 : ℕ → ℤ

@@ -10,7 +10,7 @@ use Rattle.mb_decode.specs.Meaning.{Fits}
 use Rattle.asm_syntax.specs.declared.slot.Slot.{Slot}
 use Rattle.asm_syntax.specs.Names.{special_of}
 use Rattle.asm_syntax.specs.Shapes.{shape_of, upper_or_value}
-use Rattle.asm_syntax.specs.Spelling.{spelled}
+use Rattle.asm_syntax.specs.Spelling.{shape_of_named, spelled}
 use Rattle.mb_dis.specs.Statement.{bare, instr_text, lexemes, operands_text, read_by, read_operands, statement}
 use Rattle.mb_lex.specs.Lexemes.{Word, lex}
 use Rattle.mb_dis.proofs.Known.{IsFound, get_found, getd_found, plain_found, put_found, putd_found, special_word, told, told_itself}
@@ -80,11 +80,11 @@ fits_reads_back form i is fits =
     let xs = lexemes (lex at 0 (operands_text shape i)) in
     let words : lexemes (lex 0 0 (spelled i.op i.flags ++ operands_text shape i)) ≡ Word (spelled i.op i.flags) ∷ xs =
     lex_one (spelled i.op i.flags) (Word (spelled i.op i.flags)) (word_is_lexeme (spelled i.op i.flags) f.word) (operands_text shape i) (operands_break shape i) 0 in
-    let tells : told form f.spelling.name (special_of i.op) ≡ Some i.op = rw is at f.told in
+    let tells : told form f.named.op (special_of i.op) ≡ Some i.op = rw is at f.told in
     let itself : told form i.op (special_of i.op) ≡ Some i.op = rw is at (told_itself i.op) in
-    let same_shape : f.spelling.shape ≡ shape = f.shape ∙ ap (λ (f : Form). shape_of f (kind_of i.op)) is in
+    let same_shape : shape_of_named f.named ≡ shape = f.shape ∙ ap (λ (f : Form). shape_of f (kind_of i.op)) is in
     ap statement words
     ∙ ap (λ o. read_by o xs) f.found
-    ∙ ap (λ ss. read_operands ss xs (bare f.spelling)) same_shape
-    ∙ operands_are_read form shape i (bare f.spelling) (all_fit form i is fits) itself tells at
-    ∙ ap Some (ap (λ n. puts shape i (made f.spelling.name 0 0 0 0 n)) f.flag ∙ all_put form i f.spelling.name fits tells)
+    ∙ ap (λ ss. read_operands ss xs (bare f.named)) same_shape
+    ∙ operands_are_read form shape i (bare f.named) (all_fit form i is fits) itself tells at
+    ∙ ap Some (ap (λ n. puts shape i (made f.named.op 0 0 0 0 n)) f.flag ∙ all_put form i f.named.op fits tells)

@@ -10,8 +10,9 @@ use Rattle.op_table.specs.declared.form.Form.TheVariants.{M, T}
 use Rattle.op_table.specs.Table.{kind_of, row_for, rows}
 use Rattle.asm_syntax.specs.Names.{name_of, special_of}
 use Rattle.asm_syntax.specs.Operands.{port_name, port_of, register_name, register_of, with_special}
+use Rattle.asm_syntax.specs.declared.mnemonics.Named.{Named}
 use Rattle.asm_syntax.specs.Shapes.{shape_of}
-use Rattle.asm_syntax.specs.Spelling.{Spelling, mnemonic, spelled, spelling, spellings}
+use Rattle.asm_syntax.specs.Spelling.{mnemonic, named_in, shape_of_named, spelled}
 use Rattle.mb_lex.specs.Bytes.{continues_name, starts_name}
 
 -- a fact of each number below n
@@ -60,9 +61,9 @@ port_word k = each_at (λ k. is_word (port_name k) ≡ true) 16 k ports_are_word
 pub port_found : (k : ℕ) → k < 16 → port_of (port_name k) ≡ Some k
 port_found k = each_at (λ k. port_of (port_name k) ≡ Some k) 16 k ports_are_found
 
--- the spelling that a mnemonic finds, where it finds one
-abbrev or_none : Option Spelling → Spelling
-or_none None = record { text = []; name = Add; flags = 0; shape = [] }
+-- what a mnemonic names, where it names something
+abbrev or_none : Option Named → Named
+or_none None = record { op = Add; flags = 0; bare = true }
 or_none (Some s) = s
 
 -- the instruction, once the special register of its form is read
@@ -90,34 +91,37 @@ special_word name = refl
 
 -- a mnemonic that is found, with the operands and flags of its instruction
 pub record IsFound (name : Op) (flags : ℕ) : Type 0 where
-  pub spelling : Spelling
+  pub named : Named
   pub word : is_word (spelled name flags) ≡ true
-  pub found : mnemonic (spelled name flags) ≡ Some spelling
-  pub shape : spelling.shape ≡ shape_of (row_for name).form (kind_of name)
-  pub flag : spelling.flags ≡ flags
-  pub told : told (row_for name).form spelling.name (special_of name) ≡ Some name
+  pub found : mnemonic (spelled name flags) ≡ Some named
+  pub shape : shape_of_named named ≡ shape_of (row_for name).form (kind_of name)
+  pub flag : named.flags ≡ flags
+  pub told : told (row_for name).form named.op (special_of name) ≡ Some name
 
 pub plain_found : (name : Op) → IsFound name 0
-unfolding spelled name_of special_of mnemonic spellings rows row_for shape_of with_special
-plain_found Add = record { spelling = or_none (mnemonic (spelled Add 0)); word = refl; found = refl; shape = refl; flag = refl; told = refl }
-plain_found name = record { spelling = or_none (mnemonic (spelled name 0)); word = refl; found = refl; shape = refl; flag = refl; told = refl }
+unfolding spelled name_of special_of mnemonic named_in rows row_for shape_of shape_of_named with_special
+plain_found Add = record { named = or_none (mnemonic (spelled Add 0)); word = refl; found = refl; shape = refl; flag = refl; told = refl }
+plain_found name = record { named = or_none (mnemonic (spelled name 0)); word = refl; found = refl; shape = refl; flag = refl; told = refl }
 
 -- a stream access with each of its flags
+
+abbrev named : Op → ℕ → Named
+named name flags = record { op = name; flags = flags; bare = false }
 
 get_words : Each (λ f. is_word (spelled Get f) ≡ true) 32
 unfolding Each spelled name_of rows row_for
 get_words = (refl, (refl, (refl, (refl, (refl, (refl, (refl, (refl, (refl, (refl, (refl, (refl, (refl, (refl, (refl, (refl, (refl, (refl, (refl, (refl, (refl, (refl, (refl, (refl, (refl, (refl, (refl, (refl, (refl, (refl, (refl, (refl, tt))))))))))))))))))))))))))))))))
 
-get_finds : Each (λ f. mnemonic (spelled Get f) ≡ Some (spelling (row_for Get) f)) 32
-unfolding Each spelled name_of mnemonic spellings rows row_for shape_of
+get_finds : Each (λ f. mnemonic (spelled Get f) ≡ Some (named Get f)) 32
+unfolding Each spelled name_of mnemonic named_in rows row_for shape_of
 get_finds = (refl, (refl, (refl, (refl, (refl, (refl, (refl, (refl, (refl, (refl, (refl, (refl, (refl, (refl, (refl, (refl, (refl, (refl, (refl, (refl, (refl, (refl, (refl, (refl, (refl, (refl, (refl, (refl, (refl, (refl, (refl, (refl, tt))))))))))))))))))))))))))))))))
 
 pub get_found : (f : ℕ) → f < 32 → IsFound Get f
-unfolding special_of rows row_for
+unfolding special_of rows row_for shape_of_named
 get_found f lt = record {
-  spelling = spelling (row_for Get) f;
+  named = named Get f;
   word = each_at (λ f. is_word (spelled Get f) ≡ true) 32 f get_words lt;
-  found = each_at (λ f. mnemonic (spelled Get f) ≡ Some (spelling (row_for Get) f)) 32 f get_finds lt;
+  found = each_at (λ f. mnemonic (spelled Get f) ≡ Some (named Get f)) 32 f get_finds lt;
   shape = refl;
   flag = refl;
   told = refl;
@@ -127,16 +131,16 @@ getd_words : Each (λ f. is_word (spelled Getd f) ≡ true) 32
 unfolding Each spelled name_of rows row_for
 getd_words = (refl, (refl, (refl, (refl, (refl, (refl, (refl, (refl, (refl, (refl, (refl, (refl, (refl, (refl, (refl, (refl, (refl, (refl, (refl, (refl, (refl, (refl, (refl, (refl, (refl, (refl, (refl, (refl, (refl, (refl, (refl, (refl, tt))))))))))))))))))))))))))))))))
 
-getd_finds : Each (λ f. mnemonic (spelled Getd f) ≡ Some (spelling (row_for Getd) f)) 32
-unfolding Each spelled name_of mnemonic spellings rows row_for shape_of
+getd_finds : Each (λ f. mnemonic (spelled Getd f) ≡ Some (named Getd f)) 32
+unfolding Each spelled name_of mnemonic named_in rows row_for shape_of
 getd_finds = (refl, (refl, (refl, (refl, (refl, (refl, (refl, (refl, (refl, (refl, (refl, (refl, (refl, (refl, (refl, (refl, (refl, (refl, (refl, (refl, (refl, (refl, (refl, (refl, (refl, (refl, (refl, (refl, (refl, (refl, (refl, (refl, tt))))))))))))))))))))))))))))))))
 
 pub getd_found : (f : ℕ) → f < 32 → IsFound Getd f
-unfolding special_of rows row_for
+unfolding special_of rows row_for shape_of_named
 getd_found f lt = record {
-  spelling = spelling (row_for Getd) f;
+  named = named Getd f;
   word = each_at (λ f. is_word (spelled Getd f) ≡ true) 32 f getd_words lt;
-  found = each_at (λ f. mnemonic (spelled Getd f) ≡ Some (spelling (row_for Getd) f)) 32 f getd_finds lt;
+  found = each_at (λ f. mnemonic (spelled Getd f) ≡ Some (named Getd f)) 32 f getd_finds lt;
   shape = refl;
   flag = refl;
   told = refl;
@@ -146,16 +150,16 @@ put_words : Each (λ f. is_word (spelled Put (2 * f)) ≡ true) 16
 unfolding Each spelled name_of rows row_for
 put_words = (refl, (refl, (refl, (refl, (refl, (refl, (refl, (refl, (refl, (refl, (refl, (refl, (refl, (refl, (refl, (refl, tt))))))))))))))))
 
-put_finds : Each (λ f. mnemonic (spelled Put (2 * f)) ≡ Some (spelling (row_for Put) (2 * f))) 16
-unfolding Each spelled name_of mnemonic spellings rows row_for shape_of
+put_finds : Each (λ f. mnemonic (spelled Put (2 * f)) ≡ Some (named Put (2 * f))) 16
+unfolding Each spelled name_of mnemonic named_in rows row_for shape_of
 put_finds = (refl, (refl, (refl, (refl, (refl, (refl, (refl, (refl, (refl, (refl, (refl, (refl, (refl, (refl, (refl, (refl, tt))))))))))))))))
 
 pub put_found : (f : ℕ) → f < 16 → IsFound Put (2 * f)
-unfolding special_of rows row_for
+unfolding special_of rows row_for shape_of_named
 put_found f lt = record {
-  spelling = spelling (row_for Put) (2 * f);
+  named = named Put (2 * f);
   word = each_at (λ f. is_word (spelled Put (2 * f)) ≡ true) 16 f put_words lt;
-  found = each_at (λ f. mnemonic (spelled Put (2 * f)) ≡ Some (spelling (row_for Put) (2 * f))) 16 f put_finds lt;
+  found = each_at (λ f. mnemonic (spelled Put (2 * f)) ≡ Some (named Put (2 * f))) 16 f put_finds lt;
   shape = refl;
   flag = refl;
   told = refl;
@@ -165,16 +169,16 @@ putd_words : Each (λ f. is_word (spelled Putd (2 * f)) ≡ true) 16
 unfolding Each spelled name_of rows row_for
 putd_words = (refl, (refl, (refl, (refl, (refl, (refl, (refl, (refl, (refl, (refl, (refl, (refl, (refl, (refl, (refl, (refl, tt))))))))))))))))
 
-putd_finds : Each (λ f. mnemonic (spelled Putd (2 * f)) ≡ Some (spelling (row_for Putd) (2 * f))) 16
-unfolding Each spelled name_of mnemonic spellings rows row_for shape_of
+putd_finds : Each (λ f. mnemonic (spelled Putd (2 * f)) ≡ Some (named Putd (2 * f))) 16
+unfolding Each spelled name_of mnemonic named_in rows row_for shape_of
 putd_finds = (refl, (refl, (refl, (refl, (refl, (refl, (refl, (refl, (refl, (refl, (refl, (refl, (refl, (refl, (refl, (refl, tt))))))))))))))))
 
 pub putd_found : (f : ℕ) → f < 16 → IsFound Putd (2 * f)
-unfolding special_of rows row_for
+unfolding special_of rows row_for shape_of_named
 putd_found f lt = record {
-  spelling = spelling (row_for Putd) (2 * f);
+  named = named Putd (2 * f);
   word = each_at (λ f. is_word (spelled Putd (2 * f)) ≡ true) 16 f putd_words lt;
-  found = each_at (λ f. mnemonic (spelled Putd (2 * f)) ≡ Some (spelling (row_for Putd) (2 * f))) 16 f putd_finds lt;
+  found = each_at (λ f. mnemonic (spelled Putd (2 * f)) ≡ Some (named Putd (2 * f))) 16 f putd_finds lt;
   shape = refl;
   flag = refl;
   told = refl;

@@ -4,10 +4,11 @@ use Rattle.op_table.specs.declared.form.Form.{Form}
 use Rattle.op_table.specs.Table.{kind_of, row_for}
 use Rattle.mb_decode.specs.declared.instruction.Instr.{Instr}
 use Rattle.mb_decode.specs.Meaning.{Means, meaning}
+use Rattle.asm_syntax.specs.declared.mnemonics.Named.{Named}
 use Rattle.asm_syntax.specs.declared.slot.Slot.{Slot}
 use Rattle.asm_syntax.specs.Operands.{hex_16, slot_read, slot_text}
 use Rattle.asm_syntax.specs.Shapes.{shape_of}
-use Rattle.asm_syntax.specs.Spelling.{Spelling, mnemonic, spelled}
+use Rattle.asm_syntax.specs.Spelling.{mnemonic, shape_of_named, spelled}
 use Rattle.mb_lex.specs.Lexemes.{Comma, Lexeme, Placed, Word, lex}
 
 -- operands behind the first, each behind a comma
@@ -51,12 +52,12 @@ read_operands [] [] i = Some i
 read_operands (s ∷ ss) (x ∷ xs) i = then_read (slot_read s x i) (read_tail ss xs)
 read_operands _ _ i = None
 
-abbrev pub bare : Spelling → Instr
-bare s = record { op = s.name; rd = 0; ra = 0; rb = 0; imm = 0; flags = s.flags }
+abbrev pub bare : Named → Instr
+bare s = record { op = s.op; rd = 0; ra = 0; rb = 0; imm = 0; flags = s.flags }
 
-abbrev pub read_by : Option Spelling → List Lexeme → Option Instr
+abbrev pub read_by : Option Named → List Lexeme → Option Instr
 read_by None xs = None
-read_by (Some s) xs = read_operands s.shape xs (bare s)
+read_by (Some s) xs = read_operands (shape_of_named s) xs (bare s)
 
 -- the instruction that these lexemes are, where its value is a number that needs no prefix
 abbrev pub statement : List Lexeme → Option Instr

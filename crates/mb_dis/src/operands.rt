@@ -1,15 +1,12 @@
 ghost use Rattle.std.specs.Prelude.{◌≡◌, ◌+◌, ◌<◌, ◌≤◌, ◌++◌, codes, length};
-ghost use Rattle.asm_syntax.specs.Operands.{hex_16, hex_digit, port_name, register_name, sign_16, slot_text};
+ghost use Rattle.asm_syntax.specs.Operands.{hex_16, hex_digit, sign_16, slot_text};
 ghost use Rattle.mb_dis.specs.Statement.{operands_text, tail_text};
 
-use asm_syntax::{Slot, special_name};
-use host_io::{ShortText, Text};
+use asm_syntax::{OperandText, Slot, port_name, register_name, special_name};
+use host_io::ShortText;
 use itoa::Buffer;
 use mb_decode::Instr;
 use op_table::kind_of;
-
-/// The room of an operand.
-type OperandText = Text<12>;
 
 /// An upper-case digit.
 fn hex_digit(digit: u16) -> u8
@@ -47,28 +44,6 @@ fn sign_16(value: u16) -> i32
     }
 }
 
-/// `r` and the number of a register.
-#[tactic(auto, unfolding(asm_syntax::specs::Operands::register_name))]
-fn register(number: u8) -> OperandText
-    ensures { result ≡ register_name number }
-{
-    let mut text = OperandText::new();
-    text.push(b"r");
-    text.push(Buffer::new().format(number).as_bytes());
-    text
-}
-
-/// `rfsl` and the number of a port.
-#[tactic(auto, unfolding(asm_syntax::specs::Operands::port_name))]
-fn port(number: u16) -> OperandText
-    ensures { result ≡ port_name number }
-{
-    let mut text = OperandText::new();
-    text.push(b"rfsl");
-    text.push(Buffer::new().format(number).as_bytes());
-    text
-}
-
 /// `0x` and four digits.
 fn upper(value: u16) -> OperandText
     ensures { result ≡ codes "0x" ++ hex_16 value }
@@ -93,13 +68,13 @@ fn slot_text(slot: Slot, i: &Instr) -> OperandText
     ensures { result ≡ slot_text slot i.now }
 {
     match slot {
-        Slot::RegisterD => register(i.rd),
-        Slot::RegisterA => register(i.ra),
-        Slot::RegisterB => register(i.rb),
+        Slot::RegisterD => register_name(i.rd),
+        Slot::RegisterA => register_name(i.ra),
+        Slot::RegisterB => register_name(i.rb),
         Slot::Value => of_bytes(Buffer::new().format(sign_16(i.imm)).as_bytes()),
         Slot::Number { .. } => of_bytes(Buffer::new().format(i.imm).as_bytes()),
         Slot::Upper => upper(i.imm),
-        Slot::Port => port(i.imm),
+        Slot::Port => port_name(i.imm),
         Slot::Special => of_bytes(special_name(kind_of(i.op))),
     }
 }
