@@ -1,8 +1,10 @@
+//! The divider, which finds a bit of the quotient in a step, and what a division answers.
 ghost use Rattle.alu_units.specs.Division.{Division, IsPartial, IsTowardsZero, fault_of, magnitude, quotient_of, signs_differ, with_sign};
 ghost use Rattle.alu_units.specs.Integers.{value_of};
 ghost use Rattle.std.specs.Prelude.{IsTrue, min, ◌≡◌, ◌+◌, ◌/◌, ◌^◌, ◌≤◌, ◌<◌, ◌↔◌};
 
 use crate::faults::DivFault;
+use mb_word::is_negative;
 use std::marker::Model;
 
 /// The answer of a division: its quotient, and where that isn't the right one, why.
@@ -39,7 +41,7 @@ impl Model for Divider {
 fn without_sign(signed: bool, a: u32) -> u32
     ensures { result ≡ magnitude signed a }
 {
-    if signed && a >= 0x8000_0000 {
+    if signed && is_negative(a) {
         a.wrapping_neg()
     } else {
         a
@@ -50,7 +52,7 @@ fn without_sign(signed: bool, a: u32) -> u32
 fn signs_differ(signed: bool, a: u32, b: u32) -> bool
     ensures { result ≡ signs_differ signed a b }
 {
-    signed && (a >= 0x8000_0000) != (b >= 0x8000_0000)
+    signed && is_negative(a) != is_negative(b)
 }
 
 /// A magnitude with its sign.

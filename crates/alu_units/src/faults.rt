@@ -1,3 +1,4 @@
+//! How a division fails.
 /// Why a division has no right quotient.
 #[derive(Clone, Copy, PartialEq, Eq, Debug)]
 pub enum DivFault {

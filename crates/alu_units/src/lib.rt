@@ -1,6 +1,13 @@
 //! The arithmetic units of a MicroBlaze core (UG984), each equal to its equation.
 //!
-//! Operands come in the order of the instructions: `a` is rA, `b` is rB or the immediate.
+//! Operands come in the order of the instructions: `a` is rA, `b` is rB or the immediate. `adder`, `logic`, `compare` and
+//! the like are one function of words each; `multiply` and `barrel` have a kind that says which product or shift; a
+//! `Divider` divides in 32 steps, and `divide` at once, with a `DivFault` where there is no right quotient.
+//!
+//! ```text
+//! let sum = adder(2, 3, true); // 6, with the carry
+//! let quotient = divide(21, 7, true); // 3, signed
+//! ```
 #![tactic(auto)]
 
 mod divider;

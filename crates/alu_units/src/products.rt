@@ -1,7 +1,9 @@
+//! The multiplier, by four partial products.
 ghost use Rattle.alu_units.specs.Units.{product_of};
 ghost use Rattle.mb_word.specs.Word.{bit_of, is_negative};
 ghost use Rattle.std.specs.Prelude.{◌≡◌, ◌+◌, ◌-◌, ◌*◌, ◌^◌, ◌<◌, ◌≤◌};
 
+use mb_word::is_negative;
 use op_table::MulKind;
 
 /// The two words of a product.
@@ -41,7 +43,7 @@ fn whole_product(a: u32, b: u32) -> Product
 fn taken_off(sign_of: u32, other: u32) -> u32
     ensures { result ≡ other * bit_of (is_negative sign_of) }
 {
-    if sign_of >= 0x8000_0000 { other } else { 0 }
+    if is_negative(sign_of) { other } else { 0 }
 }
 
 /// The low or the high word of a product, by four partial products (UG984, `mul`, `mulh`, `mulhsu`

@@ -1,7 +1,9 @@
+//! The barrel shifter, and the shifts by one place.
 ghost use Rattle.alu_units.specs.Units.{low_bit, shifted, shifted_in};
 ghost use Rattle.mb_word.specs.Word.{is_negative};
 ghost use Rattle.std.specs.Prelude.{false, ◌≡◌, ◌<◌};
 
+use mb_word::is_negative;
 use op_table::ShiftKind;
 
 /// A word that was shifted to the right by one place, and the bit that went out of it.
@@ -20,7 +22,7 @@ fn stage(a: u32, step: u8, k: ShiftKind) -> u32
         ShiftKind::Left => a << step,
         ShiftKind::Right => a >> step,
         ShiftKind::Arith => {
-            if a >= 0x8000_0000 {
+            if is_negative(a) {
                 !(!a >> step)
             } else {
                 a >> step
@@ -59,7 +61,7 @@ pub fn sra(a: u32) -> Shifted
     ensures value { result.value ≡ shifted_in (is_negative a) a }
     ensures carry { result.carry ≡ low_bit a }
 {
-    shift_in(a >= 0x8000_0000, a)
+    shift_in(is_negative(a), a)
 }
 
 /// One place to the right, where the carry comes in at the top (UG984, `src`).

@@ -1,3 +1,4 @@
+//! The adder, the comparers, the logic unit, and the extensions of signs.
 ghost use Rattle.alu_units.specs.Integers.{value_of};
 ghost use Rattle.alu_units.specs.Units.{compared, first_equal_byte, logic_of, sign_extended};
 ghost use Rattle.mb_word.specs.Word.{bit_of};

@@ -1,11 +1,10 @@
 -- What a claim says of the row that makes it.
-use Rattle.std.proofs.Common.{◌≡◌, ◌⊎◌, inl, inr, ℕ, Bool, true, false, List, [], ◌∷◌, ◌++◌, flat_map, Option, Some, None, refl, sym, ap, subst, ◌∙◌}
+use Rattle.std.proofs.Common.{◌≡◌, ◌⊎◌, inl, inr, ℕ, Bool, true, false, List, [], ◌∷◌, ◌++◌, Option, Some, None, refl, sym, ap, ◌∙◌}
 use Rattle.toml.specs.Data.{Data, Members, as_table, member, no_members}
-use Rattle.board_file.specs.Claims.{bases, claims_by, claims_in, claims_on_file, controllers, core_claim, core_claim_of, core_claims, file_claim, file_claim_of, file_claims, gets, irqs, puts, row_claims}
+use Rattle.board_file.specs.Claims.{bases, claims_by, claims_in, claims_on_file, controllers, core_claim, core_claim_of, core_claims, file_claim, file_claim_of, file_claims, irqs, row_claims}
 use Rattle.board_file.specs.Read.{core_name_at, file_at, number_at}
 use Rattle.board_file.specs.Tree.{key_place, rows_in}
 use Rattle.board_file.specs.declared.claims.Claim.{Claim}
-use Rattle.board_file.specs.declared.claims.Subject.{Subject}
 use Rattle.board_file.specs.declared.claims.Subject.TheVariants.{File, OfCore}
 use Rattle.board_file.specs.declared.claims.Usage.{Usage}
 use Rattle.board_file.specs.declared.claims.Usage.TheVariants.{Number, Whole}

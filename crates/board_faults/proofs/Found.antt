@@ -2,6 +2,7 @@
 use Rattle.std.proofs.Common.{◌≡◌, ◌⊎◌, inl, inr, ℕ, Bool, true, false, ◌&&◌, ◌||◌, not, List, [], ◌∷◌, ◌++◌, flat_map, Option, Some, None, refl, arith}
 use Rattle.std.specs.List.{list_any}
 use Rattle.board_file.specs.Faults.{IsOneOf, fault, fault_at, fault_unless}
+use Rattle.board_file.specs.declared.fault.BoardRule.{BoardRule}
 use Rattle.board_file.specs.declared.fault.Fault.{Fault}
 use Rattle.board_faults.specs.Told.{IsIn}
 
@@ -41,12 +42,12 @@ from_each {X} f of (x ∷ xs) h = by_side (one_of_two f (of x) (flat_map of xs) 
     by_side (inl here) later = (x, inl refl, here)
     by_side (inr more) later = let found = later more in (found.0, inr found.1, found.2)
 
-pub unless : (f : Fault) (right : Bool) (code : ℕ) (at : List ℕ) → IsOneOf f (fault_unless right code at) → (right ≡ false) × (fault code at ≡ f)
+pub unless : (f : Fault) (right : Bool) (code : BoardRule) (at : List ℕ) → IsOneOf f (fault_unless right code at) → (right ≡ false) × (fault code at ≡ f)
 unless f true code at h = elim h [ ]
 unless f false code at (inl same) = (refl, same)
 unless f false code at (inr h) = elim h [ ]
 
-pub at_code : (f : Fault) (o : Option ℕ) (at : List ℕ) → IsOneOf f (fault_at o at) → (code : ℕ) × (o ≡ Some code) × (fault code at ≡ f)
+pub at_code : (f : Fault) (o : Option BoardRule) (at : List ℕ) → IsOneOf f (fault_at o at) → (code : BoardRule) × (o ≡ Some code) × (fault code at ≡ f)
 at_code f None at h = elim h [ ]
 at_code f (Some code) at (inl same) = (code, refl, same)
 at_code f (Some code) at (inr h) = elim h [ ]

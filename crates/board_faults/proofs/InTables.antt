@@ -1,11 +1,13 @@
 -- What the faults say that stand in the file's own keys and in one table.
-use Rattle.std.proofs.Common.{◌≡◌, ◌⊎◌, inl, inr, ℕ, ◌<◌, Bool, true, false, not, ◌==◌, List, [], ◌∷◌, ◌++◌, flat_map, Option, Some, None, refl, sym, ap, subst, ◌∙◌, arith, if◌then◌else◌}
+use Rattle.std.proofs.Common.{◌≡◌, ◌⊎◌, inl, inr, ℕ, Bool, true, false, not, List, [], ◌∷◌, ◌++◌, Some, None, refl, subst, arith}
 use Rattle.toml.specs.Data.{Data, Members, array, as_table, boolean, datetime, float, integer, member, no_members, string, table}
 use Rattle.board_file.specs.Faults.{IsOneOf, fault, fault_at, fault_unless}
-use Rattle.board_file.specs.Keys.{key_of, key_text, row_keys, tables, top_keys}
+use Rattle.board_file.specs.Keys.{key_of, row_keys, top_keys}
 use Rattle.board_file.specs.Read.{is_board_name, key_code}
 use Rattle.board_file.specs.Rules.{are_few, code_if, count_faults, count_members, each_row, inner_faults, is_empty_table, is_known, is_link, is_network, key_faults, keys_faults, many_code, row_code, row_faults, stray_faults, table_faults, top_faults, value_faults}
 use Rattle.board_file.specs.Tree.{at_key, further, inside, row_place, rows_in, table_place}
+use Rattle.board_file.specs.declared.fault.BoardRule.{BoardRule}
+use Rattle.board_file.specs.declared.fault.BoardRule.TheVariants as broken
 use Rattle.board_file.specs.declared.fault.Fault.{Fault}
 use Rattle.board_file.specs.declared.keys.Key.TheVariants as key
 use Rattle.board_file.specs.declared.keys.KeyRule.{KeyRule}
@@ -13,14 +15,14 @@ use Rattle.board_file.specs.declared.keys.Rows.{Rows}
 use Rattle.board_file.specs.declared.keys.Rows.TheVariants as rows
 use Rattle.board_faults.proofs.Found.{at_code, from_each, not_false, one_of_two, unless}
 use Rattle.board_faults.proofs.WrongValues.{key_told}
-use Rattle.board_faults.specs.Told.{HasKeys, HasRow, IsIn, IsMember, Tells, a_row, bad_link, bad_name, device_on_network, event_on_network, many_cores, many_links, many_rows, no_cores, no_row, the_file, unknown_key}
+use Rattle.board_faults.specs.Told.{HasKeys, HasRow, IsMember, Tells, a_row, bad_link, bad_name, device_on_network, event_on_network, many_cores, many_links, many_rows, no_cores, no_row, the_file, unknown_key}
 
 -- what a fault says
 abbrev pub IsTrue : Members → Fault → Type 0
-IsTrue tree f = Tells tree f.code f.place
+IsTrue tree f = Tells tree f.rule f.place
 
 -- a fault that is told is true where it is this one
-pub is_true : (tree : Members) (code : ℕ) (at : List ℕ) (f : Fault) → fault code at ≡ f → Tells tree code at → IsTrue tree f
+pub is_true : (tree : Members) (code : BoardRule) (at : List ℕ) (f : Fault) → fault code at ≡ f → Tells tree code at → IsTrue tree f
 is_true tree code at f same says = subst (IsTrue tree) same says
 
 keys_told : (tree : Members) (before : List ℕ) (keys : Members) (rules : List KeyRule) (f : Fault) → HasKeys tree before keys rules → IsOneOf f (keys_faults tree before keys rules) → IsTrue tree f
@@ -34,43 +36,43 @@ strays_told : (tree : Members) (before : List ℕ) (keys : Members) (rules : Lis
     → (ms : Members) → ((text : List ℕ) (d : Data) → IsMember text d ms → IsMember text d keys) → IsOneOf f (stray_faults before rules ms) → IsTrue tree f
 strays_told tree before keys rules f of_file no_members more h = elim h [ ]
 strays_told tree before keys rules f of_file (member text d ms) more h =
-    by_side (one_of_two f (fault_unless (is_known rules text) 603 (further before text)) (stray_faults before rules ms) h)
+    by_side (one_of_two f (fault_unless (is_known rules text) broken.UnknownKey (further before text)) (stray_faults before rules ms) h)
     (λ g. strays_told tree before keys rules f of_file ms (λ t e m. more t e (inr m)) g)
   where
-    by_side : IsOneOf f (fault_unless (is_known rules text) 603 (further before text)) ⊎ IsOneOf f (stray_faults before rules ms) → (IsOneOf f (stray_faults before rules ms) → IsTrue tree f) → IsTrue tree f
+    by_side : IsOneOf f (fault_unless (is_known rules text) broken.UnknownKey (further before text)) ⊎ IsOneOf f (stray_faults before rules ms) → (IsOneOf f (stray_faults before rules ms) → IsTrue tree f) → IsTrue tree f
     by_side (inl here) rest =
-        let stray = unless f (is_known rules text) 603 (further before text) here in
-        is_true tree 603 _ f stray.1 (unknown_key before keys rules text d of_file (more text d (inl (refl, refl))) stray.0)
+        let stray = unless f (is_known rules text) broken.UnknownKey (further before text) here in
+        is_true tree broken.UnknownKey _ f stray.1 (unknown_key before keys rules text d of_file (more text d (inl (refl, refl))) stray.0)
     by_side (inr later) rest = rest later
 
-code_holds : (holds : Bool) (c code : ℕ) → code_if holds c ≡ Some code → (holds ≡ true) × (c ≡ code)
+code_holds : (holds : Bool) (c code : BoardRule) → code_if holds c ≡ Some code → (holds ≡ true) × (c ≡ code)
 code_holds true c code e = (refl, same_some c code e)
   where
-    same_some : (m n : ℕ) → Some m ≡ Some n → m ≡ n
+    same_some : (m n : BoardRule) → Some m ≡ Some n → m ≡ n
     same_some m n g = grind (arith, g)
 code_holds false c code e = grind (arith, e)
 
-as_code : (tree : Members) (place : List ℕ) (c code : ℕ) → c ≡ code → Tells tree c place → Tells tree code place
-as_code tree place c code same says = let P : ℕ → Type 0 = λ n. Tells tree n place in subst P same says
+as_code : (tree : Members) (place : List ℕ) (c code : BoardRule) → c ≡ code → Tells tree c place → Tells tree code place
+as_code tree place c code same says = let P : BoardRule → Type 0 = λ n. Tells tree n place in subst P same says
 
-standing_told : (tree : Members) (r : Rows) (name : List ℕ) (keys : Members) (code : ℕ) → HasRow tree r name keys → row_code (is_network tree) r keys ≡ Some code → Tells tree code (row_place r name)
+standing_told : (tree : Members) (r : Rows) (name : List ℕ) (keys : Members) (code : BoardRule) → HasRow tree r name keys → row_code (is_network tree) r keys ≡ Some code → Tells tree code (row_place r name)
 unfolding row_code
 standing_told tree rows.Core name keys code row e = grind (arith, e)
 standing_told tree rows.Link name keys code row e =
-    let h = code_holds (not (is_link keys)) 610 code e in
-    as_code tree _ 610 code h.1 (bad_link name keys row (not_true (is_link keys) h.0))
+    let h = code_holds (not (is_link keys)) broken.BadLink code e in
+    as_code tree _ broken.BadLink code h.1 (bad_link name keys row (not_true (is_link keys) h.0))
   where
     not_true : (b : Bool) → not b ≡ true → b ≡ false
     not_true true g = grind (arith, g)
     not_true false g = refl
 standing_told tree rows.Timer name keys code row e =
-    let h = code_holds (is_network tree) 617 code e in as_code tree _ 617 code h.1 (device_on_network rows.Timer name keys refl row h.0)
+    let h = code_holds (is_network tree) broken.DeviceOnNetwork code e in as_code tree _ broken.DeviceOnNetwork code h.1 (device_on_network rows.Timer name keys refl row h.0)
 standing_told tree rows.Intc name keys code row e =
-    let h = code_holds (is_network tree) 617 code e in as_code tree _ 617 code h.1 (device_on_network rows.Intc name keys refl row h.0)
+    let h = code_holds (is_network tree) broken.DeviceOnNetwork code e in as_code tree _ broken.DeviceOnNetwork code h.1 (device_on_network rows.Intc name keys refl row h.0)
 standing_told tree rows.Uart name keys code row e =
-    let h = code_holds (is_network tree) 617 code e in as_code tree _ 617 code h.1 (device_on_network rows.Uart name keys refl row h.0)
+    let h = code_holds (is_network tree) broken.DeviceOnNetwork code e in as_code tree _ broken.DeviceOnNetwork code h.1 (device_on_network rows.Uart name keys refl row h.0)
 standing_told tree rows.Event name keys code row e =
-    let h = code_holds (is_network tree) 618 code e in as_code tree _ 618 code h.1 (event_on_network name keys row h.0)
+    let h = code_holds (is_network tree) broken.EventOnNetwork code e in as_code tree _ broken.EventOnNetwork code h.1 (event_on_network name keys row h.0)
 
 keys_of_row_told : (tree : Members) (r : Rows) (name : List ℕ) (keys : Members) (f : Fault) → HasRow tree r name keys → IsOneOf f (inner_faults (is_network tree) tree r (row_place r name) keys) → IsTrue tree f
 unfolding inner_faults
@@ -101,8 +103,8 @@ keys_of_row_told tree r name keys f row h = by_side (one_of_two f (first ++ stra
         let code = at_code f (row_code (is_network tree) r keys) at last in
         is_true tree code.0 at f code.2 (standing_told tree r name keys code.0 row code.1)
 
-no_table_told : (tree : Members) (r : Rows) (name : List ℕ) (d : Data) (f : Fault) → IsMember name d (rows_in tree r) → as_table d ≡ None → IsOneOf f (fault 605 (row_place r name) ∷ []) → IsTrue tree f
-no_table_told tree r name d f there none (inl same) = is_true tree 605 _ f same (no_row r name d there none)
+no_table_told : (tree : Members) (r : Rows) (name : List ℕ) (d : Data) (f : Fault) → IsMember name d (rows_in tree r) → as_table d ≡ None → IsOneOf f (fault broken.WrongType (row_place r name) ∷ []) → IsTrue tree f
+no_table_told tree r name d f there none (inl same) = is_true tree broken.WrongType _ f same (no_row r name d there none)
 no_table_told tree r name d f there none (inr h) = elim h [ ]
 
 value_of_row_told : (tree : Members) (r : Rows) (name : List ℕ) (d : Data) (f : Fault) → IsMember name d (rows_in tree r) → IsOneOf f (value_faults (is_network tree) tree r (row_place r name) d) → IsTrue tree f
@@ -116,12 +118,12 @@ value_of_row_told tree r name (array xs) f there h = no_table_told tree r name (
 
 row_told : (tree : Members) (r : Rows) (name : List ℕ) (d : Data) (f : Fault) → IsMember name d (rows_in tree r) → IsOneOf f (row_faults (is_network tree) tree r name d) → IsTrue tree f
 unfolding row_faults
-row_told tree r name d f there h = by_side (one_of_two f (fault_unless (is_board_name name) 606 (row_place r name)) (value_faults (is_network tree) tree r (row_place r name) d) h)
+row_told tree r name d f there h = by_side (one_of_two f (fault_unless (is_board_name name) broken.BadValue (row_place r name)) (value_faults (is_network tree) tree r (row_place r name) d) h)
   where
-    by_side : IsOneOf f (fault_unless (is_board_name name) 606 (row_place r name)) ⊎ IsOneOf f (value_faults (is_network tree) tree r (row_place r name) d) → IsTrue tree f
+    by_side : IsOneOf f (fault_unless (is_board_name name) broken.BadValue (row_place r name)) ⊎ IsOneOf f (value_faults (is_network tree) tree r (row_place r name) d) → IsTrue tree f
     by_side (inl here) =
-        let bad = unless f (is_board_name name) 606 (row_place r name) here in
-        is_true tree 606 _ f bad.1 (bad_name r name d there bad.0)
+        let bad = unless f (is_board_name name) broken.BadValue (row_place r name) here in
+        is_true tree broken.BadValue _ f bad.1 (bad_name r name d there bad.0)
     by_side (inr later) = value_of_row_told tree r name d f there later
 
 rows_told : (tree : Members) (r : Rows) (f : Fault) (ms : Members) → ((name : List ℕ) (d : Data) → IsMember name d ms → IsMember name d (rows_in tree r)) → IsOneOf f (each_row (is_network tree) tree r ms) → IsTrue tree f
@@ -135,11 +137,11 @@ rows_told tree r f (member name d ms) more h =
 
 many_told : (tree : Members) (r : Rows) (f : Fault) → are_few r (count_members (rows_in tree r)) ≡ false → fault (many_code r) (table_place r) ≡ f → IsTrue tree f
 unfolding are_few many_code
-many_told tree rows.Core f e same = is_true tree 615 _ f same (many_cores (grind (arith, e)))
-many_told tree rows.Link f e same = is_true tree 616 _ f same (many_links (grind (arith, e)))
-many_told tree rows.Timer f e same = is_true tree 606 _ f same (many_rows rows.Timer (grind (arith, e)))
-many_told tree rows.Uart f e same = is_true tree 606 _ f same (many_rows rows.Uart (grind (arith, e)))
-many_told tree rows.Event f e same = is_true tree 606 _ f same (many_rows rows.Event (grind (arith, e)))
+many_told tree rows.Core f e same = is_true tree broken.TooManyCores _ f same (many_cores (grind (arith, e)))
+many_told tree rows.Link f e same = is_true tree broken.TooManyLinks _ f same (many_links (grind (arith, e)))
+many_told tree rows.Timer f e same = is_true tree broken.BadValue _ f same (many_rows rows.Timer (grind (arith, e)))
+many_told tree rows.Uart f e same = is_true tree broken.BadValue _ f same (many_rows rows.Uart (grind (arith, e)))
+many_told tree rows.Event f e same = is_true tree broken.BadValue _ f same (many_rows rows.Event (grind (arith, e)))
 many_told tree rows.Intc f e same = grind (arith, e)
 
 pub table_told : (tree : Members) (r : Rows) (f : Fault) → IsOneOf f (table_faults tree r) → IsTrue tree f
@@ -164,8 +166,8 @@ top_told tree f h = by_side (one_of_two f (first ++ strays) _ h)
     by_part (inl here) = keys_told tree [] tree top_keys f the_file here
     by_part (inr later) = strays_told tree [] tree top_keys f the_file tree (λ t d g. g) later
 
-    by_side : IsOneOf f (first ++ strays) ⊎ IsOneOf f (fault_unless (not (is_empty_table (at_key key.Core tree))) 604 (table_place rows.Core)) → IsTrue tree f
+    by_side : IsOneOf f (first ++ strays) ⊎ IsOneOf f (fault_unless (not (is_empty_table (at_key key.Core tree))) broken.Missing (table_place rows.Core)) → IsTrue tree f
     by_side (inl front) = by_part (one_of_two f first strays front)
     by_side (inr last) =
-        let none = unless f (not (is_empty_table (at_key key.Core tree))) 604 (table_place rows.Core) last in
-        is_true tree 604 _ f none.1 (no_cores (not_false _ none.0))
+        let none = unless f (not (is_empty_table (at_key key.Core tree))) broken.Missing (table_place rows.Core) last in
+        is_true tree broken.Missing _ f none.1 (no_cores (not_false _ none.0))

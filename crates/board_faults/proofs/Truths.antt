@@ -1,18 +1,18 @@
 -- Each refusal is true of its file.
-use Rattle.std.proofs.Common.{◌≡◌, ◌⊎◌, inl, inr, ℕ, List, [], ◌++◌, flat_map}
+use Rattle.std.proofs.Common.{◌⊎◌, inl, inr, List, ◌++◌, flat_map}
 use Rattle.toml.specs.Data.{Members}
-use Rattle.board_file.specs.Board.{IsRefusal, base_faults, faults, irq_faults, least_fault, naming_faults, not_toml, within_tables}
+use Rattle.board_file.specs.Board.{base_faults, faults, irq_faults, least_fault, naming_faults, not_toml, within_tables}
 use Rattle.board_file.specs.Bus.{below_faults, lone_faults, sum_faults}
 use Rattle.board_file.specs.Claims.{bases, controllers, core_claims, file_claims, gets, irqs, puts, twice_faults}
 use Rattle.board_file.specs.Faults.{IsOneOf}
 use Rattle.board_file.specs.Keys.{tables}
 use Rattle.board_file.specs.Rules.{table_faults, top_faults}
-use Rattle.board_file.specs.declared.fault.BoardFault.TheVariants.{Refused}
+use Rattle.board_file.specs.declared.fault.BoardRule.TheVariants as broken
 use Rattle.board_file.specs.declared.fault.Fault.{Fault}
 use Rattle.board_faults.proofs.Found.{from_each, one_of_two}
 use Rattle.board_faults.proofs.InTables.{IsTrue, table_told, top_told}
 use Rattle.board_faults.proofs.Twice.{bases_told, below_told, controllers_told, files_told, gets_told, irqs_told, lone_told, puts_told, sum_told}
-use Rattle.board_faults.specs.Told.{IsTold, RefusalsAreTold, faulty, no_toml}
+use Rattle.board_faults.specs.Told.{RefusalsAreTold, faulty, no_toml}
 
 within_told : (tree : Members) (f : Fault) → IsOneOf f (within_tables tree) → IsTrue tree f
 unfolding within_tables
@@ -27,13 +27,13 @@ unfolding naming_faults
 naming_told tree f h = by_side (one_of_two f (files ++ put) got h)
   where
     files : List Fault
-    files = twice_faults 607 (file_claims tree)
+    files = twice_faults broken.FileTwice (file_claims tree)
 
     put : List Fault
-    put = twice_faults 609 (core_claims tree puts)
+    put = twice_faults broken.PortTwice (core_claims tree puts)
 
     got : List Fault
-    got = twice_faults 609 (core_claims tree gets)
+    got = twice_faults broken.PortTwice (core_claims tree gets)
 
     by_front : IsOneOf f files ⊎ IsOneOf f put → IsTrue tree f
     by_front (inl g) = files_told tree f g
@@ -45,9 +45,9 @@ naming_told tree f h = by_side (one_of_two f (files ++ put) got h)
 
 base_told : (tree : Members) (f : Fault) → IsOneOf f (base_faults tree) → IsTrue tree f
 unfolding base_faults
-base_told tree f h = by_side (one_of_two f (twice_faults 613 (core_claims tree bases)) (flat_map (below_faults tree) (core_claims tree bases)) h)
+base_told tree f h = by_side (one_of_two f (twice_faults broken.BadBase (core_claims tree bases)) (flat_map (below_faults tree) (core_claims tree bases)) h)
   where
-    by_side : IsOneOf f (twice_faults 613 (core_claims tree bases)) ⊎ IsOneOf f (flat_map (below_faults tree) (core_claims tree bases)) → IsTrue tree f
+    by_side : IsOneOf f (twice_faults broken.BadBase (core_claims tree bases)) ⊎ IsOneOf f (flat_map (below_faults tree) (core_claims tree bases)) → IsTrue tree f
     by_side (inl g) = bases_told tree f g
     by_side (inr g) = below_told tree f g
 
@@ -56,10 +56,10 @@ unfolding irq_faults
 irq_told tree f h = by_side (one_of_two f (control ++ inputs) alone h)
   where
     control : List Fault
-    control = twice_faults 614 (core_claims tree controllers)
+    control = twice_faults broken.InterruptTwice (core_claims tree controllers)
 
     inputs : List Fault
-    inputs = twice_faults 614 (core_claims tree irqs)
+    inputs = twice_faults broken.InterruptTwice (core_claims tree irqs)
 
     alone : List Fault
     alone = flat_map (lone_faults (core_claims tree controllers)) (core_claims tree irqs)
@@ -94,4 +94,4 @@ fault_told tree f h = last (one_of_two f (within_tables tree ++ naming_faults tr
 
 pub refusals_told : RefusalsAreTold
 refusals_told file code place (not_toml refuted) = no_toml refuted
-refusals_told file code place (least_fault tree f is least) = faulty tree f.code f.place is (fault_told tree f least.among)
+refusals_told file code place (least_fault tree f is least) = faulty tree f.rule f.place is (fault_told tree f least.among)

@@ -1,14 +1,16 @@
 -- What each code of a fault says of a board file.
-use Rattle.std.specs.Prelude.{◌≡◌, ◌⊎◌, ℕ, ◌<◌, Bool, true, false, ℤ, List, [], ◌∷◌, Option, Some, None, option_and_then, is_some}
+use Rattle.std.specs.Prelude.{◌≡◌, ◌⊎◌, ℕ, ◌<◌, Bool, true, false, ℤ, List, [], ◌∷◌, Some, None, option_and_then, is_some}
 use Rattle.toml.specs.Data.{Data, Members, as_bool, as_integer, as_str, as_table, no_members, member}
 use Rattle.board_file.specs.Board.{IsRefusal}
 use Rattle.board_file.specs.Bus.{memory_of, memory_sum}
-use Rattle.board_file.specs.Faults.{is_earlier}
+use Rattle.board_file.specs.Faults.{code_of, is_earlier}
 use Rattle.board_file.specs.Keys.{key_of, key_text, row_keys, top_keys}
 use Rattle.board_file.specs.Read.{break_of, core_name_at, file_at, file_of, is_board_name, number_at, number_of, pipeline_of, turn_of, version_of}
 use Rattle.board_file.specs.Rules.{count_members, is_empty_table, is_known, is_link, is_network}
 use Rattle.board_file.specs.Tree.{IsToml, IsTomlOf, at_key, further, has_core, inside, key_place, row_place, rows_in, table_place}
 use Rattle.board_file.specs.declared.fault.BoardFault.TheVariants.{Refused}
+use Rattle.board_file.specs.declared.fault.BoardRule.{BoardRule}
+use Rattle.board_file.specs.declared.fault.BoardRule.TheVariants as broken
 use Rattle.board_file.specs.declared.keys.Key.{Key}
 use Rattle.board_file.specs.declared.keys.Key.TheVariants as key
 use Rattle.board_file.specs.declared.keys.KeyRule.{KeyRule}
@@ -151,60 +153,60 @@ AreMany rows.Uart n = 64 < n
 AreMany rows.Event n = 256 < n
 AreMany _ n = ⊥
 
--- what a code with a place says of the tree of a file
-pub data Tells (tree : Members) : ℕ → List ℕ → Type 0 where
+-- what a fault at a place says of the tree of a file
+pub data Tells (tree : Members) : BoardRule → List ℕ → Type 0 where
   -- the version is missing, or is none that is known
-  no_version : (place : List ℕ) → LacksKey tree place kind.VersionNumber → Tells tree 602 place
-  other_version : (place : List ℕ) (d : Data) → HasValue tree place kind.VersionNumber d → option_and_then version_of (as_integer d) ≡ None → Tells tree 602 place
+  no_version : (place : List ℕ) → LacksKey tree place kind.VersionNumber → Tells tree broken.UnknownVersion place
+  other_version : (place : List ℕ) (d : Data) → HasValue tree place kind.VersionNumber d → option_and_then version_of (as_integer d) ≡ None → Tells tree broken.UnknownVersion place
   -- a key that isn't in the table
-  unknown_key : (before : List ℕ) (keys : Members) (rules : List KeyRule) (text : List ℕ) (d : Data) → HasKeys tree before keys rules → IsMember text d keys → is_known rules text ≡ false → Tells tree 603 (further before text)
+  unknown_key : (before : List ℕ) (keys : Members) (rules : List KeyRule) (text : List ℕ) (d : Data) → HasKeys tree before keys rules → IsMember text d keys → is_known rules text ≡ false → Tells tree broken.UnknownKey (further before text)
   -- a key that is needed is missing; no core; an input of a core that has no interrupt controller
-  missing_key : (place : List ℕ) (v : Kind) → is_version v ≡ false → LacksKey tree place v → Tells tree 604 place
-  no_cores : is_empty_table (at_key key.Core tree) ≡ true → Tells tree 604 (table_place rows.Core)
-  no_controller : (place core : List ℕ) (input : ℕ) → HasIrq tree place core input → ((other : List ℕ) → Controls tree other core → ⊥) → Tells tree 604 place
+  missing_key : (place : List ℕ) (v : Kind) → is_version v ≡ false → LacksKey tree place v → Tells tree broken.Missing place
+  no_cores : is_empty_table (at_key key.Core tree) ≡ true → Tells tree broken.Missing (table_place rows.Core)
+  no_controller : (place core : List ℕ) (input : ℕ) → HasIrq tree place core input → ((other : List ℕ) → Controls tree other core → ⊥) → Tells tree broken.Missing place
   -- a value of another type than the key's
-  other_type : (place : List ℕ) (v : Kind) (d : Data) → HasValue tree place v d → has_type v d ≡ false → Tells tree 605 place
-  no_row : (r : Rows) (name : List ℕ) (d : Data) → IsMember name d (rows_in tree r) → as_table d ≡ None → Tells tree 605 (row_place r name)
+  other_type : (place : List ℕ) (v : Kind) (d : Data) → HasValue tree place v d → has_type v d ≡ false → Tells tree broken.WrongType place
+  no_row : (r : Rows) (name : List ℕ) (d : Data) → IsMember name d (rows_in tree r) → as_table d ≡ None → Tells tree broken.WrongType (row_place r name)
   -- a number outside its range, a kind of break that isn't known, a bad name of a row, too many rows
-  bad_number : (place : List ℕ) (q : Quantity) (d : Data) (z : ℤ) → is_memory q ≡ false → HasValue tree place (kind.Number q) d → as_integer d ≡ Some z → number_of q z ≡ None → Tells tree 606 place
-  bad_break : (place : List ℕ) (d : Data) (s : List ℕ) → HasValue tree place kind.BreakName d → as_str d ≡ Some s → break_of s ≡ None → Tells tree 606 place
-  bad_name : (r : Rows) (name : List ℕ) (d : Data) → IsMember name d (rows_in tree r) → is_board_name name ≡ false → Tells tree 606 (row_place r name)
-  many_rows : (r : Rows) → AreMany r (count_members (rows_in tree r)) → Tells tree 606 (table_place r)
+  bad_number : (place : List ℕ) (q : Quantity) (d : Data) (z : ℤ) → is_memory q ≡ false → HasValue tree place (kind.Number q) d → as_integer d ≡ Some z → number_of q z ≡ None → Tells tree broken.BadValue place
+  bad_break : (place : List ℕ) (d : Data) (s : List ℕ) → HasValue tree place kind.BreakName d → as_str d ≡ Some s → break_of s ≡ None → Tells tree broken.BadValue place
+  bad_name : (r : Rows) (name : List ℕ) (d : Data) → IsMember name d (rows_in tree r) → is_board_name name ≡ false → Tells tree broken.BadValue (row_place r name)
+  many_rows : (r : Rows) → AreMany r (count_members (rows_in tree r)) → Tells tree broken.BadValue (table_place r)
   -- an output that an earlier output names, or an input or image
-  output_twice : (place other file : List ℕ) → IsOutput tree place file → IsOutput tree other file → is_earlier other place ≡ true → Tells tree 607 place
-  output_is_read : (place other file : List ℕ) → IsOutput tree place file → IsInput tree other file → Tells tree 607 place
+  output_twice : (place other file : List ℕ) → IsOutput tree place file → IsOutput tree other file → is_earlier other place ≡ true → Tells tree broken.FileTwice place
+  output_is_read : (place other file : List ℕ) → IsOutput tree place file → IsInput tree other file → Tells tree broken.FileTwice place
   -- a core that isn't there
-  no_core : (place : List ℕ) (d : Data) (s : List ℕ) → HasValue tree place kind.CoreName d → as_str d ≡ Some s → has_core tree s ≡ false → Tells tree 608 place
+  no_core : (place : List ℕ) (d : Data) (s : List ℕ) → HasValue tree place kind.CoreName d → as_str d ≡ Some s → has_core tree s ≡ false → Tells tree broken.UnknownCore place
   -- two links that begin, or end, at one port of a core, of which this one's path is the later
-  put_twice : (place other core : List ℕ) (port : ℕ) → Puts tree place core port → Puts tree other core port → is_earlier other place ≡ true → Tells tree 609 place
-  get_twice : (place other core : List ℕ) (port : ℕ) → Gets tree place core port → Gets tree other core port → is_earlier other place ≡ true → Tells tree 609 place
+  put_twice : (place other core : List ℕ) (port : ℕ) → Puts tree place core port → Puts tree other core port → is_earlier other place ≡ true → Tells tree broken.PortTwice place
+  get_twice : (place other core : List ℕ) (port : ℕ) → Gets tree place core port → Gets tree other core port → is_earlier other place ≡ true → Tells tree broken.PortTwice place
   -- a link that doesn't have at each end a file, or else a core with a port, or that has files at both ends
-  bad_link : (name : List ℕ) (keys : Members) → HasRow tree rows.Link name keys → is_link keys ≡ false → Tells tree 610 (row_place rows.Link name)
+  bad_link : (name : List ℕ) (keys : Members) → HasRow tree rows.Link name keys → is_link keys ≡ false → Tells tree broken.BadLink (row_place rows.Link name)
   -- a pipeline, an order that isn't known
-  bad_pipeline : (place : List ℕ) (d : Data) (s : List ℕ) → HasValue tree place kind.PipelineName d → as_str d ≡ Some s → pipeline_of s ≡ None → Tells tree 611 place
-  bad_order : (place : List ℕ) (d : Data) (s : List ℕ) → HasValue tree place kind.OrderName d → as_str d ≡ Some s → turn_of s ≡ None → Tells tree 612 place
+  bad_pipeline : (place : List ℕ) (d : Data) (s : List ℕ) → HasValue tree place kind.PipelineName d → as_str d ≡ Some s → pipeline_of s ≡ None → Tells tree broken.UnknownPipeline place
+  bad_order : (place : List ℕ) (d : Data) (s : List ℕ) → HasValue tree place kind.OrderName d → as_str d ≡ Some s → turn_of s ≡ None → Tells tree broken.UnknownOrder place
   -- two devices of a core at one base, of which this one's path is the later; a base below the core's memory size
-  base_twice : (place other core : List ℕ) (base : ℕ) → HasBase tree place core base → HasBase tree other core base → is_earlier other place ≡ true → Tells tree 613 place
-  base_in_memory : (place core : List ℕ) (base size : ℕ) → HasBase tree place core base → memory_of tree core ≡ Some size → base < size → Tells tree 613 place
+  base_twice : (place other core : List ℕ) (base : ℕ) → HasBase tree place core base → HasBase tree other core base → is_earlier other place ≡ true → Tells tree broken.BadBase place
+  base_in_memory : (place core : List ℕ) (base size : ℕ) → HasBase tree place core base → memory_of tree core ≡ Some size → base < size → Tells tree broken.BadBase place
   -- two controllers of a core, or two devices at one input of it, of which this one's path is the later
-  controller_twice : (place other core : List ℕ) → Controls tree place core → Controls tree other core → is_earlier other place ≡ true → Tells tree 614 place
-  irq_twice : (place other core : List ℕ) (input : ℕ) → HasIrq tree place core input → HasIrq tree other core input → is_earlier other place ≡ true → Tells tree 614 place
+  controller_twice : (place other core : List ℕ) → Controls tree place core → Controls tree other core → is_earlier other place ≡ true → Tells tree broken.InterruptTwice place
+  irq_twice : (place other core : List ℕ) (input : ℕ) → HasIrq tree place core input → HasIrq tree other core input → is_earlier other place ≡ true → Tells tree broken.InterruptTwice place
   -- too many cores, too many links
-  many_cores : 16 < count_members (rows_in tree rows.Core) → Tells tree 615 (table_place rows.Core)
-  many_links : 64 < count_members (rows_in tree rows.Link) → Tells tree 616 (table_place rows.Link)
+  many_cores : 16 < count_members (rows_in tree rows.Core) → Tells tree broken.TooManyCores (table_place rows.Core)
+  many_links : 64 < count_members (rows_in tree rows.Link) → Tells tree broken.TooManyLinks (table_place rows.Link)
   -- a device, an event on a network board
-  device_on_network : (r : Rows) (name : List ℕ) (keys : Members) → is_device r ≡ true → HasRow tree r name keys → is_network tree ≡ true → Tells tree 617 (row_place r name)
-  event_on_network : (name : List ℕ) (keys : Members) → HasRow tree rows.Event name keys → is_network tree ≡ true → Tells tree 618 (row_place rows.Event name)
+  device_on_network : (r : Rows) (name : List ℕ) (keys : Members) → is_device r ≡ true → HasRow tree r name keys → is_network tree ≡ true → Tells tree broken.DeviceOnNetwork (row_place r name)
+  event_on_network : (name : List ℕ) (keys : Members) → HasRow tree rows.Event name keys → is_network tree ≡ true → Tells tree broken.EventOnNetwork (row_place rows.Event name)
   -- a size that no memory has; memories that have more than 1 GiB together
-  bad_memory : (place : List ℕ) (d : Data) (z : ℤ) → HasValue tree place (kind.Number quantity.Memory) d → as_integer d ≡ Some z → number_of quantity.Memory z ≡ None → Tells tree 619 place
-  large_memories : (total : ℕ) → memory_sum (rows_in tree rows.Core) ≡ Some total → 1_073_741_824 < total → Tells tree 619 (table_place rows.Core)
+  bad_memory : (place : List ℕ) (d : Data) (z : ℤ) → HasValue tree place (kind.Number quantity.Memory) d → as_integer d ≡ Some z → number_of quantity.Memory z ≡ None → Tells tree broken.BadMemory place
+  large_memories : (total : ℕ) → memory_sum (rows_in tree rows.Core) ≡ Some total → 1_073_741_824 < total → Tells tree broken.BadMemory (table_place rows.Core)
   -- a name that no file has
-  bad_file : (place : List ℕ) (d : Data) (s : List ℕ) → HasValue tree place kind.File d → as_str d ≡ Some s → file_of s ≡ None → Tells tree 620 place
+  bad_file : (place : List ℕ) (d : Data) (s : List ℕ) → HasValue tree place kind.File d → as_str d ≡ Some s → file_of s ≡ None → Tells tree broken.BadFileName place
 
 -- what a code with a place says of a file: it is no TOML, or the TOML of a tree with that fault
 pub data IsTold (file : List ℕ) : ℕ → List ℕ → Type 0 where
-  no_toml : (IsToml file → ⊥) → IsTold file 601 []
-  faulty : (tree : Members) (code : ℕ) (place : List ℕ) → IsTomlOf file tree → Tells tree code place → IsTold file code place
+  no_toml : (IsToml file → ⊥) → IsTold file (code_of broken.NotToml) []
+  faulty : (tree : Members) (rule : BoardRule) (place : List ℕ) → IsTomlOf file tree → Tells tree rule place → IsTold file (code_of rule) place
 
 -- each refusal is true of its file
 abbrev pub RefusalsAreTold : Type 0

@@ -6,16 +6,16 @@ use Rattle.std.specs.Cmp.Lexicographic.{slice_cmp}
 use Rattle.std.specs.List.{list_any}
 use Rattle.std.specs.Option.{is_some}
 use Rattle.std.specs.Ordering.{is_lt, nat_cmp, ordering_reverse, ordering_then}
-use Rattle.board_file.specs.Faults.{IsLeast, IsOneOf, comes_first, least, least_after}
+use Rattle.board_file.specs.Faults.{IsLeast, IsOneOf, code_of, comes_first, least, least_after}
 use Rattle.board_file.specs.declared.fault.Fault.{Fault}
 
 -- the order of faults is total
 order : Fault → Fault → Ordering
-order f g = ordering_then (nat_cmp f.code g.code) (slice_cmp nat_cmp f.place g.place)
+order f g = ordering_then (nat_cmp (code_of f.rule) (code_of g.rule)) (slice_cmp nat_cmp f.place g.place)
 
 order_total : IsTotalOrder order
 unfolding order
-order_total = then_total (on_total (λ f. f.code) nat_cmp_total) (on_total (λ f. f.place) nat_list_cmp_total)
+order_total = then_total (on_total (λ f. code_of f.rule) nat_cmp_total) (on_total (λ f. f.place) nat_list_cmp_total)
 
 by_tests : (less same : Bool) (o : Ordering) → (less || (same && is_lt o)) ≡ is_lt (ordering_then (cond less Less (cond same Equal Greater)) o)
 by_tests true same o = refl
@@ -24,7 +24,7 @@ by_tests false false o = refl
 
 is_order : (f g : Fault) → comes_first f g ≡ is_lt (order f g)
 unfolding order
-is_order f g = by_tests (nat_lt f.code g.code) (f.code == g.code) (slice_cmp nat_cmp f.place g.place)
+is_order f g = by_tests (nat_lt (code_of f.rule) (code_of g.rule)) (code_of f.rule == code_of g.rule) (slice_cmp nat_cmp f.place g.place)
 
 not_itself : (f : Fault) → comes_first f f ≡ false
 not_itself f = is_order f f ∙ ap is_lt (tied_itself order_total f)

@@ -6,6 +6,8 @@ use Rattle.toml.specs.Data.{Data, Members, as_str}
 use Rattle.board_file.specs.Faults.{fault_at, fault_unless}
 use Rattle.board_file.specs.Read.{break_in, core_in, core_of, file_in, judged, key_code, number_in, only_if, pipeline_in, right, value_code}
 use Rattle.board_file.specs.Tree.{has_core}
+use Rattle.board_file.specs.declared.fault.BoardRule.{BoardRule}
+use Rattle.board_file.specs.declared.fault.BoardRule.TheVariants as broken
 use Rattle.board_file.specs.declared.keys.Key.{Key}
 use Rattle.board_file.specs.declared.keys.KeyRule.TheVariants.{Needs, May}
 use Rattle.board_file.specs.declared.keys.Kind.{Kind}
@@ -17,16 +19,16 @@ pub both_nil : {X : Type 0} (xs ys : List X) → xs ++ ys ≡ [] → (xs ≡ [])
 both_nil [] ys e = (refl, e)
 both_nil (x ∷ xs) ys e = grind arith
 
-pub true_from_nil : (holds : Bool) (code : ℕ) (at : List ℕ) → fault_unless holds code at ≡ [] → holds ≡ true
+pub true_from_nil : (holds : Bool) (code : BoardRule) (at : List ℕ) → fault_unless holds code at ≡ [] → holds ≡ true
 true_from_nil true code at e = refl
 true_from_nil false code at e = grind arith
 
-pub none_from_nil : (code : Option ℕ) (at : List ℕ) → fault_at code at ≡ [] → code ≡ None
+pub none_from_nil : (code : Option BoardRule) (at : List ℕ) → fault_at code at ≡ [] → code ≡ None
 none_from_nil None at e = refl
 none_from_nil (Some code) at e = grind arith
 
 -- a value that has no code is right
-ok_from_none : {X : Type 0} (r : Result X ℕ) → result_err r ≡ None → (x : X) × (result_ok r ≡ Some x)
+ok_from_none : {X : Type 0} (r : Result X BoardRule) → result_err r ≡ None → (x : X) × (result_ok r ≡ Some x)
 ok_from_none (Ok x) e = (x, refl)
 ok_from_none (Err code) e = grind arith
 
@@ -65,12 +67,12 @@ pub given_number : (tree : Members) (k : Key) (q : Quantity) (d : Data) → key_
 unfolding key_code value_code
 given_number tree k q d e = ok_from_none (number_in q d) e
 
-held : (holds : Bool) (s : List ℕ) → result_err {E = ℕ} (ok_or (only_if holds s) 608) ≡ None → holds ≡ true
+held : (holds : Bool) (s : List ℕ) → result_err {E = BoardRule} (ok_or (only_if holds s) broken.UnknownCore) ≡ None → holds ≡ true
 held true s e = refl
 held false s e = grind arith
 
 -- the name of a core that is there
-named_there : (tree : Members) (s : Option (List ℕ)) → result_err {E = ℕ} (judged 608 (core_of tree) s) ≡ None → (name : List ℕ) × (s ≡ Some name) × (has_core tree name ≡ true)
+named_there : (tree : Members) (s : Option (List ℕ)) → result_err {E = BoardRule} (judged broken.UnknownCore (core_of tree) s) ≡ None → (name : List ℕ) × (s ≡ Some name) × (has_core tree name ≡ true)
 named_there tree None e = grind arith
 named_there tree (Some s) e = (s, refl, held (has_core tree s) s e)
 

@@ -17,6 +17,8 @@ use Rattle.board_file.specs.declared.board.BoardFile.{BoardFile}
 use Rattle.board_file.specs.declared.board.CoreRow.{CoreRow}
 use Rattle.board_file.specs.declared.board.End.{End}
 use Rattle.board_file.specs.declared.board.End.TheVariants as end
+use Rattle.board_file.specs.declared.fault.BoardRule.{BoardRule}
+use Rattle.board_file.specs.declared.fault.BoardRule.TheVariants as broken
 use Rattle.board_file.specs.declared.keys.Key.{Key}
 use Rattle.board_file.specs.declared.keys.Key.TheVariants as key
 use Rattle.board_file.specs.declared.keys.KeyRule.{KeyRule}
@@ -126,14 +128,14 @@ both_true true true c e = (refl, refl)
 both_true true false c e = grind arith
 both_true false b c e = grind arith
 
-no_code : (holds : Bool) (code : ℕ) → code_if (not holds) code ≡ None → holds ≡ true
+no_code : (holds : Bool) (code : BoardRule) → code_if (not holds) code ≡ None → holds ≡ true
 no_code true code e = refl
 no_code false code e = grind arith
 
 ends_are_whole : (network : Bool) (ms : Members) → row_code network rows.Link ms ≡ None
     → (is_end (has key.From ms) (has key.FromPort ms) (has key.FromFile ms) ≡ true) × (is_end (has key.To ms) (has key.ToPort ms) (has key.ToFile ms) ≡ true)
 unfolding row_code is_link
-ends_are_whole network ms e = both_true _ _ _ (no_code _ 610 e)
+ends_are_whole network ms e = both_true _ _ _ (no_code _ broken.BadLink e)
 
 link_makes : (network : Bool) (tree : Members) (cores : List CoreRow) → ArePlaced tree cores → Makes network tree rows.Link (link_row cores)
 unfolding link_row row_keys from_end to_end core_at number_at file_at

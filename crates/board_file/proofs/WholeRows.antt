@@ -16,6 +16,7 @@ use Rattle.board_file.specs.Rules.{count_members, each_row, inner_faults, keys_f
 use Rattle.board_file.specs.Tree.{has_core, inside, row_place, rows_in}
 use Rattle.board_file.specs.declared.board.CoreRow.{CoreRow}
 use Rattle.board_file.specs.declared.board.Pipeline.{Pipeline}
+use Rattle.board_file.specs.declared.fault.BoardRule.TheVariants as broken
 use Rattle.board_file.specs.declared.keys.Rows.{Rows}
 use Rattle.board_file.specs.declared.keys.Rows.TheVariants as rows
 
@@ -42,8 +43,8 @@ right_value network tree r name d named e = grind arith
 right_row : (network : Bool) (tree : Members) (r : Rows) (name : List ℕ) (d : Data) → row_faults network tree r name d ≡ [] → IsRight network tree r name d
 unfolding row_faults
 right_row network tree r name d e =
-    let parts = both_nil (fault_unless (is_board_name name) 606 (row_place r name)) (value_faults network tree r (row_place r name) d) e in
-    right_value network tree r name d (true_from_nil (is_board_name name) 606 (row_place r name) parts.0) parts.1
+    let parts = both_nil (fault_unless (is_board_name name) broken.BadValue (row_place r name)) (value_faults network tree r (row_place r name) d) e in
+    right_value network tree r name d (true_from_nil (is_board_name name) broken.BadValue (row_place r name) parts.0) parts.1
 
 -- how a row is made of a table that is right
 pub record Makes {R : Type 0} (network : Bool) (tree : Members) (r : Rows) (means : List ℕ → Members → Option R) : Type 0 where

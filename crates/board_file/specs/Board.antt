@@ -3,7 +3,7 @@ use Rattle.std.specs.Prelude.{◌≡◌, ℕ, true, List, [], ◌++◌, flat_map
 use Rattle.toml.specs.Data.{Members}
 use Rattle.board_file.specs.Bus.{below_faults, lone_faults, sum_faults}
 use Rattle.board_file.specs.Claims.{bases, controllers, core_claims, file_claims, gets, irqs, puts, twice_faults}
-use Rattle.board_file.specs.Faults.{IsLeast}
+use Rattle.board_file.specs.Faults.{IsLeast, code_of, refusal}
 use Rattle.board_file.specs.Keys.{tables}
 use Rattle.board_file.specs.Rows.{IsBoardOf}
 use Rattle.board_file.specs.Rules.{table_faults, top_faults}
@@ -11,6 +11,7 @@ use Rattle.board_file.specs.Tree.{IsToml, IsTomlOf, are_ascending, rows_in}
 use Rattle.board_file.specs.declared.board.BoardFile.{BoardFile}
 use Rattle.board_file.specs.declared.fault.BoardFault.{BoardFault}
 use Rattle.board_file.specs.declared.fault.BoardFault.TheVariants.{Refused, NoMemory}
+use Rattle.board_file.specs.declared.fault.BoardRule.TheVariants as broken
 use Rattle.board_file.specs.declared.fault.Fault.{Fault}
 use Rattle.board_file.specs.declared.keys.Rows.{Rows}
 
@@ -21,19 +22,19 @@ within_tables tree = top_faults tree ++ flat_map (table_faults tree) tables
 -- two rows that name one file or one port
 unfoldable pub naming_faults : Members → List Fault
 naming_faults tree =
-    twice_faults 607 (file_claims tree)
-    ++ twice_faults 609 (core_claims tree puts)
-    ++ twice_faults 609 (core_claims tree gets)
+    twice_faults broken.FileTwice (file_claims tree)
+    ++ twice_faults broken.PortTwice (core_claims tree puts)
+    ++ twice_faults broken.PortTwice (core_claims tree gets)
 
 -- two devices with one base, and bases in the memory of their core
 unfoldable pub base_faults : Members → List Fault
-base_faults tree = twice_faults 613 (core_claims tree bases) ++ flat_map (below_faults tree) (core_claims tree bases)
+base_faults tree = twice_faults broken.BadBase (core_claims tree bases) ++ flat_map (below_faults tree) (core_claims tree bases)
 
 -- two controllers of a core, two devices on one of its inputs, and a device on an input of no controller
 unfoldable pub irq_faults : Members → List Fault
 irq_faults tree =
-    twice_faults 614 (core_claims tree controllers)
-    ++ twice_faults 614 (core_claims tree irqs)
+    twice_faults broken.InterruptTwice (core_claims tree controllers)
+    ++ twice_faults broken.InterruptTwice (core_claims tree irqs)
     ++ flat_map (lone_faults (core_claims tree controllers)) (core_claims tree irqs)
 
 -- all faults of a tree
@@ -51,5 +52,5 @@ pub record IsRead (file : List ℕ) (board : BoardFile) : Type 0 where
 -- why a file is refused: want of memory, bytes that are no TOML, or the least fault
 pub data IsRefusal (file : List ℕ) : BoardFault → Type 0 where
   no_memory : IsRefusal file NoMemory
-  not_toml : (IsToml file → ⊥) → IsRefusal file (Refused 601 [])
-  least_fault : (tree : Members) (f : Fault) → IsTomlOf file tree → IsLeast f (faults tree) → IsRefusal file (Refused f.code f.place)
+  not_toml : (IsToml file → ⊥) → IsRefusal file (Refused (code_of broken.NotToml) [])
+  least_fault : (tree : Members) (f : Fault) → IsTomlOf file tree → IsLeast f (faults tree) → IsRefusal file (refusal f)

@@ -11,6 +11,7 @@ use Rattle.board_file.specs.declared.claims.Subject.{Subject}
 use Rattle.board_file.specs.declared.claims.Subject.TheVariants.{File, OfCore}
 use Rattle.board_file.specs.declared.claims.Usage.{Usage}
 use Rattle.board_file.specs.declared.claims.Usage.TheVariants.{Number, Whole}
+use Rattle.board_file.specs.declared.fault.BoardRule.{BoardRule}
 use Rattle.board_file.specs.declared.fault.Fault.{Fault}
 use Rattle.board_file.specs.declared.keys.Key.{Key}
 use Rattle.board_file.specs.declared.keys.Key.TheVariants as key
@@ -95,8 +96,8 @@ same_subject _ _ = false
 abbrev pub collides : Claim → Claim → Bool
 collides c d = same_subject c.on d.on && (not d.sole || is_earlier d.place c.place)
 
-abbrev pub claim_faults : ℕ → List Claim → Claim → List Fault
-claim_faults code all c = fault_unless (not (c.sole && list_any (collides c) all)) code c.place
+abbrev pub claim_faults : BoardRule → List Claim → Claim → List Fault
+claim_faults rule all c = fault_unless (not (c.sole && list_any (collides c) all)) rule c.place
 
-unfoldable pub twice_faults : ℕ → List Claim → List Fault
-twice_faults code all = flat_map (claim_faults code all) all
+unfoldable pub twice_faults : BoardRule → List Claim → List Fault
+twice_faults rule all = flat_map (claim_faults rule all) all

@@ -10,6 +10,8 @@ use Rattle.board_file.specs.declared.board.Pipeline.{Pipeline}
 use Rattle.board_file.specs.declared.board.Pipeline.TheVariants as pipeline
 use Rattle.board_file.specs.declared.board.Turn.{Turn}
 use Rattle.board_file.specs.declared.board.Turn.TheVariants as turn
+use Rattle.board_file.specs.declared.fault.BoardRule.{BoardRule}
+use Rattle.board_file.specs.declared.fault.BoardRule.TheVariants as broken
 use Rattle.board_file.specs.declared.keys.Key.{Key}
 use Rattle.board_file.specs.declared.keys.KeyRule.{KeyRule}
 use Rattle.board_file.specs.declared.keys.KeyRule.TheVariants.{Needs, May}
@@ -42,9 +44,9 @@ is_number quantity.Cycle n = nat_le n 1_000_000_000_000
 is_number quantity.Memory n = nat_le 4096 n && nat_le n 1_048_576 && n % 4096 == 0
 
 -- the code of a number that is none of them
-unfoldable pub number_code : Quantity → ℕ
-number_code quantity.Memory = 619
-number_code _ = 606
+unfoldable pub number_code : Quantity → BoardRule
+number_code quantity.Memory = broken.BadMemory
+number_code _ = broken.BadValue
 
 abbrev pub number_of : Quantity → ℤ → Option ℕ
 number_of q (pos n) = only_if (is_number q n) n
@@ -79,41 +81,41 @@ abbrev pub version_of : ℤ → Option ℕ
 version_of (pos n) = only_if (n == 1) n
 version_of _ = None
 
--- 605 for a value of another kind, and this code for one of the kind that isn't right
-abbrev pub judged : {X Y : Type 0} → ℕ → (X → Option Y) → Option X → Result Y ℕ
-judged code means None = Err 605
-judged code means (Some x) = ok_or (means x) code
+-- the fault of a value of another kind is its type, and this is the fault of one of the kind that isn't right
+abbrev pub judged : {X Y : Type 0} → BoardRule → (X → Option Y) → Option X → Result Y BoardRule
+judged rule means None = Err broken.WrongType
+judged rule means (Some x) = ok_or (means x) rule
 
-unfoldable pub flag_in : Data → Result Bool ℕ
-flag_in d = ok_or (as_bool d) 605
+unfoldable pub flag_in : Data → Result Bool BoardRule
+flag_in d = ok_or (as_bool d) broken.WrongType
 
-unfoldable pub number_in : Quantity → Data → Result ℕ ℕ
+unfoldable pub number_in : Quantity → Data → Result ℕ BoardRule
 number_in q d = judged (number_code q) (number_of q) (as_integer d)
 
-unfoldable pub file_in : Data → Result (List ℕ) ℕ
-file_in d = judged 620 file_of (as_str d)
+unfoldable pub file_in : Data → Result (List ℕ) BoardRule
+file_in d = judged broken.BadFileName file_of (as_str d)
 
-unfoldable pub core_in : Members → Data → Result (List ℕ) ℕ
-core_in tree d = judged 608 (core_of tree) (as_str d)
+unfoldable pub core_in : Members → Data → Result (List ℕ) BoardRule
+core_in tree d = judged broken.UnknownCore (core_of tree) (as_str d)
 
-unfoldable pub pipeline_in : Data → Result Pipeline ℕ
-pipeline_in d = judged 611 pipeline_of (as_str d)
+unfoldable pub pipeline_in : Data → Result Pipeline BoardRule
+pipeline_in d = judged broken.UnknownPipeline pipeline_of (as_str d)
 
-unfoldable pub turn_in : Data → Result Turn ℕ
-turn_in d = judged 612 turn_of (as_str d)
+unfoldable pub turn_in : Data → Result Turn BoardRule
+turn_in d = judged broken.UnknownOrder turn_of (as_str d)
 
-unfoldable pub break_in : Data → Result Bool ℕ
-break_in d = judged 606 break_of (as_str d)
+unfoldable pub break_in : Data → Result Bool BoardRule
+break_in d = judged broken.BadValue break_of (as_str d)
 
 -- a version of another kind is no other fault than a version that isn't known
-unfoldable pub version_in : Data → Result ℕ ℕ
-version_in d = ok_or (option_and_then version_of (as_integer d)) 602
+unfoldable pub version_in : Data → Result ℕ BoardRule
+version_in d = ok_or (option_and_then version_of (as_integer d)) broken.UnknownVersion
 
-unfoldable pub table_in : Data → Result Members ℕ
-table_in d = ok_or (as_table d) 605
+unfoldable pub table_in : Data → Result Members BoardRule
+table_in d = ok_or (as_table d) broken.WrongType
 
 -- the code of a value that isn't right
-unfoldable pub value_code : Members → Kind → Data → Option ℕ
+unfoldable pub value_code : Members → Kind → Data → Option BoardRule
 value_code tree kind.Flag d = result_err (flag_in d)
 value_code tree (kind.Number q) d = result_err (number_in q d)
 value_code tree kind.File d = result_err (file_in d)
@@ -125,18 +127,18 @@ value_code tree kind.VersionNumber d = result_err (version_in d)
 value_code tree kind.Rows d = result_err (table_in d)
 
 -- the code of a key that is missing and may not be
-unfoldable pub missing_code : Kind → ℕ
-missing_code kind.VersionNumber = 602
-missing_code _ = 604
+unfoldable pub missing_code : Kind → BoardRule
+missing_code kind.VersionNumber = broken.UnknownVersion
+missing_code _ = broken.Missing
 
-unfoldable pub key_code : Members → KeyRule → Option Data → Option ℕ
+unfoldable pub key_code : Members → KeyRule → Option Data → Option BoardRule
 key_code tree (Needs k v) None = Some (missing_code v)
 key_code tree (May k v) None = None
 key_code tree (Needs k v) (Some d) = value_code tree v d
 key_code tree (May k v) (Some d) = value_code tree v d
 
 -- the meaning of a value that is there and right
-abbrev pub right : {X : Type 0} → (Data → Result X ℕ) → Option Data → Option X
+abbrev pub right : {X : Type 0} → (Data → Result X BoardRule) → Option Data → Option X
 right means None = None
 right means (Some d) = result_ok (means d)
 

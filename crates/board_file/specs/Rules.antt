@@ -7,6 +7,8 @@ use Rattle.board_file.specs.Faults.{fault, fault_at, fault_unless}
 use Rattle.board_file.specs.Keys.{key_of, key_text, row_keys, top_keys}
 use Rattle.board_file.specs.Read.{flag_in, is_board_name, key_code, right}
 use Rattle.board_file.specs.Tree.{at_key, further, inside, row_place, rows_in, table_place}
+use Rattle.board_file.specs.declared.fault.BoardRule.{BoardRule}
+use Rattle.board_file.specs.declared.fault.BoardRule.TheVariants as broken
 use Rattle.board_file.specs.declared.fault.Fault.{Fault}
 use Rattle.board_file.specs.declared.keys.Key.{Key}
 use Rattle.board_file.specs.declared.keys.Key.TheVariants as key
@@ -14,20 +16,20 @@ use Rattle.board_file.specs.declared.keys.KeyRule.{KeyRule}
 use Rattle.board_file.specs.declared.keys.Rows.{Rows}
 use Rattle.board_file.specs.declared.keys.Rows.TheVariants as rows
 
--- each key that a table has is there and right (602, 604 to 606, 608, 611, 612, 619, 620)
+-- each key that a table has is there and right
 unfoldable pub key_faults : Members → List ℕ → Members → KeyRule → List Fault
 key_faults tree before ms rule = fault_at (key_code tree rule (at_key (key_of rule) ms)) (further before (key_text (key_of rule)))
 
 unfoldable pub keys_faults : Members → List ℕ → Members → List KeyRule → List Fault
 keys_faults tree before ms rules = flat_map (key_faults tree before ms) rules
 
--- no key is there that the table doesn't have (603)
+-- no key is there that the table doesn't have
 unfoldable pub is_known : List KeyRule → List ℕ → Bool
 is_known rules text = list_any (λ rule. bytes_eq (key_text (key_of rule)) text) rules
 
 abbrev pub stray_faults : List ℕ → List KeyRule → Members → List Fault
 stray_faults before rules no_members = []
-stray_faults before rules (member text d ms) = fault_unless (is_known rules text) 603 (further before text) ++ stray_faults before rules ms
+stray_faults before rules (member text d ms) = fault_unless (is_known rules text) broken.UnknownKey (further before text) ++ stray_faults before rules ms
 
 -- an end of a link is a file, or else a core with a port
 abbrev pub is_end : Bool → Bool → Bool → Bool
@@ -42,15 +44,15 @@ is_link ms =
     && is_end (has key.To ms) (has key.ToPort ms) (has key.ToFile ms)
     && not (has key.FromFile ms && has key.ToFile ms)
 
-abbrev pub code_if : Bool → ℕ → Option ℕ
-code_if fails code = if fails then Some code else None
+abbrev pub code_if : Bool → BoardRule → Option BoardRule
+code_if fails rule = if fails then Some rule else None
 
--- the code of a row that its table or a network board doesn't let stand (610, 617, 618)
-unfoldable pub row_code : Bool → Rows → Members → Option ℕ
+-- the code of a row that its table or a network board doesn't let stand
+unfoldable pub row_code : Bool → Rows → Members → Option BoardRule
 row_code network rows.Core ms = None
-row_code network rows.Link ms = code_if (not (is_link ms)) 610
-row_code network rows.Event ms = code_if network 618
-row_code network _ ms = code_if network 617
+row_code network rows.Link ms = code_if (not (is_link ms)) broken.BadLink
+row_code network rows.Event ms = code_if network broken.EventOnNetwork
+row_code network _ ms = code_if network broken.DeviceOnNetwork
 
 -- one row: its name, its keys, and whether it may stand
 unfoldable pub inner_faults : Bool → Members → Rows → List ℕ → Members → List Fault
@@ -61,10 +63,10 @@ inner_faults network tree r at ms =
 
 abbrev pub value_faults : Bool → Members → Rows → List ℕ → Data → List Fault
 value_faults network tree r at (table ms) = inner_faults network tree r at ms
-value_faults network tree r at _ = fault 605 at ∷ []
+value_faults network tree r at _ = fault broken.WrongType at ∷ []
 
 unfoldable pub row_faults : Bool → Members → Rows → List ℕ → Data → List Fault
-row_faults network tree r name d = fault_unless (is_board_name name) 606 (row_place r name) ++ value_faults network tree r (row_place r name) d
+row_faults network tree r name d = fault_unless (is_board_name name) broken.BadValue (row_place r name) ++ value_faults network tree r (row_place r name) d
 
 abbrev pub each_row : Bool → Members → Rows → Members → List Fault
 each_row network tree r no_members = []
@@ -74,7 +76,7 @@ abbrev pub count_members : Members → ℕ
 count_members no_members = 0
 count_members (member text d ms) = 1 + count_members ms
 
--- the most rows that a table may have, and the code of more (606, 615, 616)
+-- the most rows that a table may have, and the code of more
 unfoldable pub are_few : Rows → ℕ → Bool
 are_few rows.Core n = nat_le n 16
 are_few rows.Link n = nat_le n 64
@@ -83,10 +85,10 @@ are_few rows.Uart n = nat_le n 64
 are_few rows.Event n = nat_le n 256
 are_few rows.Intc n = true
 
-unfoldable pub many_code : Rows → ℕ
-many_code rows.Core = 615
-many_code rows.Link = 616
-many_code _ = 606
+unfoldable pub many_code : Rows → BoardRule
+many_code rows.Core = broken.TooManyCores
+many_code rows.Link = broken.TooManyLinks
+many_code _ = broken.BadValue
 
 unfoldable pub count_faults : Members → Rows → List Fault
 count_faults tree r = fault_unless (are_few r (count_members (rows_in tree r))) (many_code r) (table_place r)
@@ -97,7 +99,7 @@ is_network tree = unwrap_or (right flag_in (at_key key.Network tree)) false
 unfoldable pub table_faults : Members → Rows → List Fault
 table_faults tree r = each_row (is_network tree) tree r (rows_in tree r) ++ count_faults tree r
 
--- the keys of the file itself; an empty table of cores is none (604)
+-- the keys of the file itself; an empty table of cores is none
 abbrev pub is_empty : Option Members → Bool
 is_empty None = false
 is_empty (Some ms) = count_members ms == 0
@@ -110,4 +112,4 @@ unfoldable pub top_faults : Members → List Fault
 top_faults tree =
     keys_faults tree [] tree top_keys
     ++ stray_faults [] top_keys tree
-    ++ fault_unless (not (is_empty_table (at_key key.Core tree))) 604 (table_place rows.Core)
+    ++ fault_unless (not (is_empty_table (at_key key.Core tree))) broken.Missing (table_place rows.Core)

@@ -1,4 +1,4 @@
-// What a board file says.
+//! What a board file says.
 use crate::list::RowList;
 use host_io::{FileName, Name};
 

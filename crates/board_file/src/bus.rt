@@ -1,4 +1,4 @@
-// The devices of a core beside its memory and its interrupt controller, and the sum of all memories.
+//! The devices of a core beside its memory and its interrupt controller, and the sum of all memories.
 ghost use Rattle.std.specs.Prelude.{◌≡◌, Some, None, flat_map, option_and_then, option_map, unwrap_or, true};
 ghost use Rattle.std.specs.List.{list_any};
 ghost use Rattle.std.specs.Result.{result_ok};
@@ -10,7 +10,7 @@ ghost use Rattle.board_file.specs.Read.{number_in};
 ghost use Rattle.board_file.specs.Tree.{at_key, rows_in, table_place};
 
 use crate::claims::{Claim, Subject};
-use crate::fault::{Fault, offer_unless};
+use crate::fault::{BoardRule, Fault, offer_unless};
 use crate::keys::{Key, Quantity, Rows};
 use crate::read::read_number;
 use crate::tree::{place_of_table, table_rows, value_at, value_of};
@@ -43,7 +43,7 @@ fn check_lone_irq(controllers: &[Claim], claim: &Claim, best: &mut Option<Fault>
     offer_unless(
         best,
         has_core_in(claim, controllers),
-        604,
+        BoardRule::Missing,
         claim.place.copied(),
     );
 }
@@ -113,7 +113,7 @@ pub fn check_bases(root: &Table, bases: &[Claim], best: &mut Option<Fault>)
 {
     for claim in bases {
         let clear = is_clear_of_memory(root, &claim.on);
-        offer_unless(best, clear, 613, claim.place.copied());
+        offer_unless(best, clear, BoardRule::BadBase, claim.place.copied());
     }
 }
 
@@ -140,5 +140,10 @@ pub fn check_sum(root: &Table, best: &mut Option<Fault>)
         Some(cores) => are_affordable(cores),
         None => true,
     };
-    offer_unless(best, affordable, 619, place_of_table(Rows::Core));
+    offer_unless(
+        best,
+        affordable,
+        BoardRule::BadMemory,
+        place_of_table(Rows::Core),
+    );
 }

@@ -1,4 +1,4 @@
-// What one row of the file alone may name: an output file, or a port, a base, an input or the controller of a core.
+//! What one row of the file alone may name: an output file, or a port, a base, an input or the controller of a core.
 ghost use Rattle.std.specs.Prelude.{◌≡◌, ◌++◌, ◌∷◌, [], Some, None, true, ◌&&◌, not, false, flat_map, option_map, IfOk, OnOk};
 ghost use Rattle.std.specs.List.{list_any};
 ghost use Rattle.toml.specs.Data.{as_table, no_members};
@@ -8,11 +8,11 @@ ghost use Rattle.board_file.specs.Faults.{fault, fault_unless, is_earlier, least
 ghost use Rattle.board_file.specs.Read.{core_name_at, file_at, number_at};
 ghost use Rattle.board_file.specs.Tree.{key_place, members_in, rows_in};
 
-use crate::fault::{Fault, NoMemory, is_earlier_place, offer_unless};
+use crate::fault::{BoardRule, Fault, is_earlier_place, offer_unless};
 use crate::keys::{Key, Quantity, Rows};
 use crate::read::{core_found, file_found, number_found};
 use crate::tree::{place_of_key, table_rows};
-use host_io::{FileName, Place};
+use host_io::{FileName, NoMemory, Place};
 use std::alloc::Global;
 use std::marker::Model;
 use toml::{Table, Value};
@@ -35,10 +35,8 @@ impl CoreName {
     fn copy_of(alloc: Global, name: &str) -> Result<CoreName, NoMemory>
         ensures { IfOk result (λ n. n ≡ name.now) }
     {
-        match String::from_str(alloc, name) {
-            Ok(text) => Ok(CoreName { text }),
-            Err(_) => Err(NoMemory),
-        }
+        let text = String::from_str(alloc, name)?;
+        Ok(CoreName { text })
     }
 
     /// The name's text.
@@ -136,7 +134,8 @@ pub fn core_controllers() -> &'static [Usage]
 fn add(claims: &mut Vec<Claim>, claim: Claim) -> Result<(), NoMemory>
     ensures { OnOk result (claims.new.items ≡ claims.old.items ++ claim ∷ []) }
 {
-    claims.push(claim).map_err(|_| NoMemory)
+    claims.push(claim)?;
+    Ok(())
 }
 
 /// Adds a claim on a file, where its name is right.
@@ -374,7 +373,7 @@ fn is_same_subject(subject: &Subject, other: &Subject) -> bool
 {
     match subject {
         Subject::File(name) => match other {
-            Subject::File(named) => name.as_text() == named.as_text(),
+            Subject::File(named) => name.is(named),
             Subject::OfCore { core: _, number: _ } => false,
         },
         Subject::OfCore { core, number } => match other {
@@ -406,18 +405,18 @@ fn is_free(claim: &Claim, all: &[Claim]) -> bool
     !(claim.sole && has_collision(claim, all))
 }
 
-fn check_claim(code: u16, all: &[Claim], claim: &Claim, best: &mut Option<Fault>)
-    ensures { best.new ≡ least_after best.old (claim_faults code all.now claim.now) }
+fn check_claim(rule: BoardRule, all: &[Claim], claim: &Claim, best: &mut Option<Fault>)
+    ensures { best.new ≡ least_after best.old (claim_faults rule all.now claim.now) }
 {
-    offer_unless(best, is_free(claim, all), code, claim.place.copied());
+    offer_unless(best, is_free(claim, all), rule, claim.place.copied());
 }
 
 /// Offers the claims that collide.
 #[tactic(auto, unfolding(crate::specs::Claims::twice_faults))]
-pub fn check_claims(code: u16, all: &[Claim], best: &mut Option<Fault>)
-    ensures { best.new ≡ least_after best.old (twice_faults code all.now) }
+pub fn check_claims(rule: BoardRule, all: &[Claim], best: &mut Option<Fault>)
+    ensures { best.new ≡ least_after best.old (twice_faults rule all.now) }
 {
     for claim in all {
-        check_claim(code, all, claim, best);
+        check_claim(rule, all, claim, best);
     }
 }

@@ -1,4 +1,4 @@
-// The tables of a board file and their keys.
+//! The tables of a board file and their keys.
 ghost use Rattle.std.specs.Prelude.{◌≡◌};
 ghost use Rattle.board_file.specs.Keys.{key_of, key_text, row_keys, table_key, tables, top_keys};
 

@@ -3,6 +3,16 @@
 //! What is wrong with a file is a list of faults, each a code with a place, and a file that has faults is refused with
 //! the least of them: the least code, and of this code the first place in byte order. A file without faults is the
 //! board whose rows are the rows of its tables, in ascending byte order of their names.
+//!
+//! `read_board` gives a `BoardFile`, whose fields are lists of rows (`CoreRow`, `LinkRow`, `TimerRow`, `IntcRow`, `UartRow`,
+//! `EventRow`), or a `BoardFault`. A row names a core by its place in `cores`.
+//!
+//! ```text
+//! let board = read_board(rt.alloc(), text)?;
+//! for core in board.cores.as_slice() {
+//!     println!(rt; "{} runs {}", core.name.as_text(), core.image.as_text())?;
+//! }
+//! ```
 #![tactic(auto)]
 
 mod board;

@@ -1,4 +1,4 @@
-// Lists of rows.
+//! Lists of rows.
 ghost use Rattle.std.specs.Prelude.{◌≡◌, ◌↔◌, ◌<◌, IsSome, IfSome, length, slice_get, Some};
 
 use std::marker::Model;

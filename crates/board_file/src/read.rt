@@ -1,4 +1,4 @@
-// What the value of a key means, or the code of what is wrong with it.
+//! What the value of a key means, or what is wrong with it.
 ghost use Rattle.std.specs.Prelude.{◌≡◌, IsTrue, true, Some, None, Ok, Err, ok_or, option_and_then, option_map, option_copied, IfOk, IfSome};
 ghost use Rattle.std.specs.List.{list_all};
 ghost use Rattle.std.specs.Result.{result_err, result_map_both, result_ok};
@@ -8,6 +8,7 @@ ghost use Rattle.host_io.specs.Names.{is_file_name, is_name};
 ghost use Rattle.board_file.specs.Read.{break_in, break_of, core_in, core_name_at, core_of, file_at, file_in, file_of, flag_in, is_board_name, is_name_byte, is_number, judged, key_code, missing_code, name_of, number_at, number_code, number_in, number_of, only_if, pipeline_in, pipeline_of, right, table_in, turn_in, turn_of, value_code, version_in, version_of};
 
 use crate::board::{Pipeline, Turn};
+use crate::fault::BoardRule;
 use crate::keys::{Key, KeyRule, Kind, Quantity};
 use crate::tree::{names_core, value_at};
 use host_io::{FileName, Name};
@@ -51,12 +52,12 @@ fn is_number_of(quantity: Quantity, number: u64) -> bool
 }
 
 #[tactic(auto, unfolding(crate::specs::Read::number_code))]
-fn code_of_number(quantity: Quantity) -> u16
+fn fault_of_number(quantity: Quantity) -> BoardRule
     ensures { result ≡ number_code quantity }
 {
     match quantity {
-        Quantity::Memory => 619,
-        _ => 606,
+        Quantity::Memory => BoardRule::BadMemory,
+        _ => BoardRule::BadValue,
     }
 }
 
@@ -71,26 +72,26 @@ fn number_if_right(quantity: Quantity, number: i64) -> Option<u64>
     }
 }
 
-/// A number of a quantity; 605 for a value of another kind, and 606, of a memory 619, for another number.
+/// A number of a quantity; `WrongType` for a value of another kind, and `BadValue`, of a memory `BadMemory`, for another number.
 #[tactic(auto, unfolding(crate::specs::Read::number_in))]
-pub fn read_number(quantity: Quantity, value: &Value) -> Result<u64, u16>
+pub fn read_number(quantity: Quantity, value: &Value) -> Result<u64, BoardRule>
     ensures value { result ≡ number_in quantity (view value.now) }
     ensures right { IfOk result (λ n. is_number quantity n ≡ true) }
 {
     match value.as_integer() {
-        Some(number) => number_if_right(quantity, number).ok_or(code_of_number(quantity)),
-        None => Err(605),
+        Some(number) => number_if_right(quantity, number).ok_or(fault_of_number(quantity)),
+        None => Err(BoardRule::WrongType),
     }
 }
 
-/// A name of a file; 605 for a value of another kind, and 620 for a text outside the rule.
+/// A name of a file; `WrongType` for a value of another kind, and `BadFileName` for a text outside the rule.
 #[tactic(auto, unfolding(crate::specs::Read::file_in))]
-pub fn read_file(value: &Value) -> Result<FileName, u16>
+pub fn read_file(value: &Value) -> Result<FileName, BoardRule>
     ensures { result ≡ file_in (view value.now) }
 {
     match value.as_str() {
-        Some(text) => file_if_right(text).ok_or(620),
-        None => Err(605),
+        Some(text) => file_if_right(text).ok_or(BoardRule::BadFileName),
+        None => Err(BoardRule::WrongType),
     }
 }
 
@@ -111,14 +112,14 @@ fn core_if_there<'a>(root: &Table, name: &'a str) -> Option<&'a str>
     }
 }
 
-/// The name of a core that is there; 605 for a value of another kind, and 608 for another name.
+/// The name of a core that is there; `WrongType` for a value of another kind, and `UnknownCore` for another name.
 #[tactic(auto, unfolding(crate::specs::Read::core_in))]
-pub fn read_core<'a>(root: &Table, value: &'a Value) -> Result<&'a str, u16>
+pub fn read_core<'a>(root: &Table, value: &'a Value) -> Result<&'a str, BoardRule>
     ensures { result_map_both (λ s. s.now) (λ code. code) result ≡ core_in (table_view root.now) (view value.now) }
 {
     match value.as_str() {
-        Some(name) => core_if_there(root, name).ok_or(608),
-        None => Err(605),
+        Some(name) => core_if_there(root, name).ok_or(BoardRule::UnknownCore),
+        None => Err(BoardRule::WrongType),
     }
 }
 
@@ -140,14 +141,14 @@ fn pipeline_named(text: &str) -> Option<Pipeline>
     None
 }
 
-/// A pipeline by its name; 605 for a value of another kind, and 611 for another text.
+/// A pipeline by its name; `WrongType` for a value of another kind, and `UnknownPipeline` for another text.
 #[tactic(auto, unfolding(crate::specs::Read::pipeline_in))]
-pub fn read_pipeline(value: &Value) -> Result<Pipeline, u16>
+pub fn read_pipeline(value: &Value) -> Result<Pipeline, BoardRule>
     ensures { result ≡ pipeline_in (view value.now) }
 {
     match value.as_str() {
-        Some(text) => pipeline_named(text).ok_or(611),
-        None => Err(605),
+        Some(text) => pipeline_named(text).ok_or(BoardRule::UnknownPipeline),
+        None => Err(BoardRule::WrongType),
     }
 }
 
@@ -166,14 +167,14 @@ fn turn_named(text: &str) -> Option<Turn>
     None
 }
 
-/// An order of the cores by its name; 605 for a value of another kind, and 612 for another text.
+/// An order of the cores by its name; `WrongType` for a value of another kind, and `UnknownOrder` for another text.
 #[tactic(auto, unfolding(crate::specs::Read::turn_in))]
-pub fn read_turn(value: &Value) -> Result<Turn, u16>
+pub fn read_turn(value: &Value) -> Result<Turn, BoardRule>
     ensures { result ≡ turn_in (view value.now) }
 {
     match value.as_str() {
-        Some(text) => turn_named(text).ok_or(612),
-        None => Err(605),
+        Some(text) => turn_named(text).ok_or(BoardRule::UnknownOrder),
+        None => Err(BoardRule::WrongType),
     }
 }
 
@@ -189,14 +190,14 @@ fn break_named(text: &str) -> Option<bool>
     None
 }
 
-/// Whether a break is non-maskable; 605 for a value of another kind, and 606 for another text.
+/// Whether a break is non-maskable; `WrongType` for a value of another kind, and `BadValue` for another text.
 #[tactic(auto, unfolding(crate::specs::Read::break_in))]
-pub fn read_break(value: &Value) -> Result<bool, u16>
+pub fn read_break(value: &Value) -> Result<bool, BoardRule>
     ensures { result ≡ break_in (view value.now) }
 {
     match value.as_str() {
-        Some(text) => break_named(text).ok_or(606),
-        None => Err(605),
+        Some(text) => break_named(text).ok_or(BoardRule::BadValue),
+        None => Err(BoardRule::WrongType),
     }
 }
 
@@ -206,35 +207,35 @@ fn known_version(number: i64) -> Option<u8>
     if number == 1 { Some(1) } else { None }
 }
 
-/// A version of the format; 602 for any other value.
+/// A version of the format; `UnknownVersion` for any other value.
 #[tactic(auto, unfolding(crate::specs::Read::version_in))]
-pub fn read_version(value: &Value) -> Result<u8, u16>
+pub fn read_version(value: &Value) -> Result<u8, BoardRule>
     ensures { result ≡ version_in (view value.now) }
 {
     match value.as_integer() {
-        Some(number) => known_version(number).ok_or(602),
-        None => Err(602),
+        Some(number) => known_version(number).ok_or(BoardRule::UnknownVersion),
+        None => Err(BoardRule::UnknownVersion),
     }
 }
 
-/// A truth value; 605 for a value of another kind.
+/// A truth value; `WrongType` for a value of another kind.
 #[tactic(auto, unfolding(crate::specs::Read::flag_in))]
-pub fn read_flag(value: &Value) -> Result<bool, u16>
+pub fn read_flag(value: &Value) -> Result<bool, BoardRule>
     ensures { result ≡ flag_in (view value.now) }
 {
-    value.as_bool().ok_or(605)
+    value.as_bool().ok_or(BoardRule::WrongType)
 }
 
 #[tactic(auto, unfolding(crate::specs::Read::table_in))]
-fn read_table<'a>(value: &'a Value) -> Result<&'a Table, u16>
+fn read_table<'a>(value: &'a Value) -> Result<&'a Table, BoardRule>
     ensures { result_map_both (λ t. table_view t.now) (λ code. code) result ≡ table_in (view value.now) }
 {
-    value.as_table().ok_or(605)
+    value.as_table().ok_or(BoardRule::WrongType)
 }
 
-/// The code of a value that isn't right for its kind.
+/// What is wrong with a value that isn't right for its kind.
 #[tactic(auto, unfolding(crate::specs::Read::value_code))]
-fn value_fault(root: &Table, kind: Kind, value: &Value) -> Option<u16>
+fn value_fault(root: &Table, kind: Kind, value: &Value) -> Option<BoardRule>
     ensures { result ≡ value_code (table_view root.now) kind (view value.now) }
 {
     match kind {
@@ -251,18 +252,18 @@ fn value_fault(root: &Table, kind: Kind, value: &Value) -> Option<u16>
 }
 
 #[tactic(auto, unfolding(crate::specs::Read::missing_code))]
-fn missing_fault(kind: Kind) -> u16
+fn missing_fault(kind: Kind) -> BoardRule
     ensures { result ≡ missing_code kind }
 {
     match kind {
-        Kind::VersionNumber => 602,
-        _ => 604,
+        Kind::VersionNumber => BoardRule::UnknownVersion,
+        _ => BoardRule::Missing,
     }
 }
 
-/// The code of a key that is missing or not right.
+/// What is wrong with a key that is missing or not right.
 #[tactic(auto, unfolding(crate::specs::Read::key_code))]
-pub fn key_fault(root: &Table, rule: KeyRule, value: Option<&Value>) -> Option<u16>
+pub fn key_fault(root: &Table, rule: KeyRule, value: Option<&Value>) -> Option<BoardRule>
     ensures { result ≡ key_code (table_view root.now) rule (option_map (λ v. view v.now) value.entry) }
 {
     match value {

@@ -1,4 +1,4 @@
-// A board from the bytes of its file.
+//! A board from the bytes of its file.
 ghost use Rattle.std.specs.Prelude.{◌≡◌, true, Some, None, [], flat_map, IfOk, IfErr, OnOk};
 ghost use Rattle.toml.specs.View.{table_view};
 ghost use Rattle.board_file.specs.Board.{IsRead, IsRefusal, base_faults, faults, irq_faults, naming_faults, within_tables};
@@ -16,12 +16,12 @@ use crate::claims::{
     check_claims, claims_on_cores, claims_on_files, core_controllers, device_bases, device_irqs,
     get_ports, put_ports,
 };
-use crate::fault::{BoardFault, Fault, NoMemory};
+use crate::fault::{BoardFault, BoardRule, Fault};
 use crate::keys::{Rows, all_tables};
 use crate::list::RowList;
 use crate::rows::{read_rows, turn_of, version_of};
 use crate::rules::{check_table, check_top, wants_network};
-use host_io::Place;
+use host_io::{NoMemory, Place};
 use std::alloc::Global;
 use toml::Table;
 
@@ -36,7 +36,7 @@ fn parse(alloc: Global, file: &[u8]) -> Result<Table, BoardFault>
                 return Err(BoardFault::NoMemory);
             }
             Err(BoardFault::Refused {
-                code: 601,
+                code: BoardRule::NotToml.code(),
                 place: Place::from_bytes(b""),
             })
         }
@@ -66,11 +66,11 @@ fn check_names(alloc: Global, root: &Table, best: &mut Option<Fault>) -> Result<
     ensures { OnOk result (best.new ≡ least_after best.old (naming_faults (table_view root.now))) }
 {
     let files = claims_on_files(alloc, root)?;
-    check_claims(607, &files, best);
+    check_claims(BoardRule::FileTwice, &files, best);
     let puts = claims_on_cores(alloc, root, put_ports())?;
-    check_claims(609, &puts, best);
+    check_claims(BoardRule::PortTwice, &puts, best);
     let gets = claims_on_cores(alloc, root, get_ports())?;
-    check_claims(609, &gets, best);
+    check_claims(BoardRule::PortTwice, &gets, best);
     Ok(())
 }
 
@@ -80,7 +80,7 @@ fn check_addresses(alloc: Global, root: &Table, best: &mut Option<Fault>) -> Res
     ensures { OnOk result (best.new ≡ least_after best.old (base_faults (table_view root.now))) }
 {
     let claims = claims_on_cores(alloc, root, device_bases())?;
-    check_claims(613, &claims, best);
+    check_claims(BoardRule::BadBase, &claims, best);
     check_bases(root, &claims, best);
     Ok(())
 }
@@ -91,9 +91,9 @@ fn check_irqs(alloc: Global, root: &Table, best: &mut Option<Fault>) -> Result<(
     ensures { OnOk result (best.new ≡ least_after best.old (irq_faults (table_view root.now))) }
 {
     let controllers = claims_on_cores(alloc, root, core_controllers())?;
-    check_claims(614, &controllers, best);
+    check_claims(BoardRule::InterruptTwice, &controllers, best);
     let irqs = claims_on_cores(alloc, root, device_irqs())?;
-    check_claims(614, &irqs, best);
+    check_claims(BoardRule::InterruptTwice, &irqs, best);
     check_lone_irqs(&controllers, &irqs, best);
     Ok(())
 }
@@ -147,14 +147,9 @@ pub fn read_board(alloc: Global, file: &[u8]) -> Result<BoardFile, BoardFault>
     ensures err { IfErr result (IsRefusal file.now) }
 {
     let root = parse(alloc, file)?;
-    match least_fault(alloc, &root) {
-        Err(NoMemory) => Err(BoardFault::NoMemory),
-        Ok(found) => match found {
-            Some(Fault { code, place }) => Err(BoardFault::Refused { code, place }),
-            None => match make_board(alloc, &root) {
-                Ok(board) => Ok(board),
-                Err(NoMemory) => Err(BoardFault::NoMemory),
-            },
-        },
+    if let Some(fault) = least_fault(alloc, &root)? {
+        return Err(fault.refusal());
     }
+    let board = make_board(alloc, &root)?;
+    Ok(board)
 }

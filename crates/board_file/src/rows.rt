@@ -1,4 +1,4 @@
-// The rows of a board, from the tree of its file.
+//! The rows of a board, from the tree of its file.
 ghost use Rattle.std.specs.Prelude.{◌≡◌, ◌++◌, true, Some, None, Option, List, ℕ, option_and_then, option_map, option_to_list, position, unwrap_or, IfOk, OnOk};
 ghost use Rattle.std.specs.Str.{bytes_eq};
 ghost use Rattle.toml.specs.Data.{as_str, as_table, Members};
@@ -9,13 +9,12 @@ ghost use Rattle.board_file.specs.Tree.{are_ascending, at_key, rows_in};
 ghost use Rattle.board_file.specs.declared.board.CoreRow.{CoreRow};
 
 use crate::board::{CoreRow, End, EventRow, IntcRow, LinkRow, Pipeline, TimerRow, Turn, UartRow};
-use crate::fault::NoMemory;
 use crate::keys::{Key, Quantity, Rows};
 use crate::read::{
     board_name, file_found, number_found, read_break, read_pipeline, read_turn, read_version,
 };
 use crate::tree::{table_rows, value_at};
-use host_io::{FileName, Name};
+use host_io::{FileName, Name, NoMemory};
 use std::alloc::Global;
 use toml::{Table, Value};
 
@@ -32,9 +31,10 @@ fn add_row<R: Row>(rows: &mut Vec<R>, row: Option<R>) -> Result<(), NoMemory>
     ensures { OnOk result (rows.new.items ≡ rows.old.items ++ option_to_list row) }
 {
     match row {
-        Some(row) => rows.push(row).map_err(|_| NoMemory),
-        None => Ok(()),
+        Some(row) => rows.push(row)?,
+        None => {}
     }
+    Ok(())
 }
 
 fn add_row_of<R: Row>(

@@ -1,4 +1,4 @@
-// The faults that stand in one table: in its rows, in their keys, and in their number.
+//! The faults that stand in one table: in its rows, in their keys, and in their number.
 ghost use Rattle.std.specs.Prelude.{◌≡◌, Some, None, [], option_map, is_some, flat_map, unwrap_or, false};
 ghost use Rattle.toml.specs.Data.{no_members};
 ghost use Rattle.toml.specs.View.{view, table_view};
@@ -8,7 +8,7 @@ ghost use Rattle.board_file.specs.Read.{flag_in, is_board_name, key_code, right}
 ghost use Rattle.board_file.specs.Rules.{are_few, code_if, count_faults, count_members, each_row, has, inner_faults, is_empty, is_empty_table, is_end, is_known, is_link, is_network, key_faults, keys_faults, many_code, row_code, row_faults, stray_faults, table_faults, top_faults, value_faults};
 ghost use Rattle.board_file.specs.Tree.{at_key, row_place, rows_in, table_place};
 
-use crate::fault::{Fault, offer, offer_some, offer_unless};
+use crate::fault::{BoardRule, Fault, offer, offer_some, offer_unless};
 use crate::keys::{Key, KeyRule, Rows, keys_of_file};
 use crate::read::{is_board_name, key_fault, read_flag};
 use crate::tree::{inside_of, place_of_row, place_of_table, table_rows, value_at};
@@ -21,8 +21,8 @@ fn check_key(root: &Table, before: &Place, members: &Table, rule: KeyRule, best:
     ensures { best.new ≡ least_after best.old (key_faults (table_view root.now) before.now (table_view members.now) rule) }
 {
     let key = rule.key();
-    let code = key_fault(root, rule, value_at(members, key));
-    offer_some(best, code, before.with(key.text().as_bytes()));
+    let wrong = key_fault(root, rule, value_at(members, key));
+    offer_some(best, wrong, before.with(key.text().as_bytes()));
 }
 
 /// Offers the faults of the keys that a table has.
@@ -56,7 +56,7 @@ fn check_strays(before: &Place, rules: &[KeyRule], members: &Table, best: &mut O
         offer_unless(
             best,
             knows(rules, text.as_str()),
-            603,
+            BoardRule::UnknownKey,
             before.with(text.as_bytes()),
         );
     }
@@ -94,24 +94,24 @@ fn is_whole_link(members: &Table) -> bool
     from && to && !(from_file && to_file)
 }
 
-fn code_if(fails: bool, code: u16) -> Option<u16>
-    ensures { result ≡ code_if fails code }
+fn fault_if(fails: bool, rule: BoardRule) -> Option<BoardRule>
+    ensures { result ≡ code_if fails rule }
 {
-    if fails { Some(code) } else { None }
+    if fails { Some(rule) } else { None }
 }
 
-/// The code of a row that its table or a network board doesn't let stand.
+/// What is wrong with a row that its table or a network board doesn't let stand.
 #[tactic(auto, unfolding(crate::specs::Rules::row_code))]
-fn row_fault(network: bool, rows: Rows, members: &Table) -> Option<u16>
+fn row_fault(network: bool, rows: Rows, members: &Table) -> Option<BoardRule>
     ensures { result ≡ row_code network rows (table_view members.now) }
 {
     match rows {
         Rows::Core => None,
-        Rows::Link => code_if(!is_whole_link(members), 610),
-        Rows::Event => code_if(network, 618),
-        Rows::Timer => code_if(network, 617),
-        Rows::Intc => code_if(network, 617),
-        Rows::Uart => code_if(network, 617),
+        Rows::Link => fault_if(!is_whole_link(members), BoardRule::BadLink),
+        Rows::Event => fault_if(network, BoardRule::EventOnNetwork),
+        Rows::Timer => fault_if(network, BoardRule::DeviceOnNetwork),
+        Rows::Intc => fault_if(network, BoardRule::DeviceOnNetwork),
+        Rows::Uart => fault_if(network, BoardRule::DeviceOnNetwork),
     }
 }
 
@@ -146,7 +146,7 @@ fn check_value(
 {
     match value {
         Value::Table(members) => check_inner(network, root, rows, at, members, best),
-        _ => offer(best, 605, at),
+        _ => offer(best, BoardRule::WrongType, at),
     }
 }
 
@@ -162,7 +162,12 @@ fn check_row(
 )
     ensures { best.new ≡ least_after best.old (row_faults network (table_view root.now) rows name.now (view value.now)) }
 {
-    offer_unless(best, is_board_name(name), 606, place_of_row(rows, name));
+    offer_unless(
+        best,
+        is_board_name(name),
+        BoardRule::BadValue,
+        place_of_row(rows, name),
+    );
     check_value(network, root, rows, place_of_row(rows, name), value, best);
 }
 
@@ -210,13 +215,13 @@ fn is_few(rows: Rows, number: usize) -> bool
 }
 
 #[tactic(auto, unfolding(crate::specs::Rules::many_code))]
-fn code_of_many(rows: Rows) -> u16
+fn fault_of_many(rows: Rows) -> BoardRule
     ensures { result ≡ many_code rows }
 {
     match rows {
-        Rows::Core => 615,
-        Rows::Link => 616,
-        _ => 606,
+        Rows::Core => BoardRule::TooManyCores,
+        Rows::Link => BoardRule::TooManyLinks,
+        _ => BoardRule::BadValue,
     }
 }
 
@@ -236,7 +241,7 @@ fn check_count(root: &Table, rows: Rows, best: &mut Option<Fault>)
     ensures { best.new ≡ least_after best.old (count_faults (table_view root.now) rows) }
 {
     let few = is_few(rows, rows_number(table_rows(root, rows)));
-    offer_unless(best, few, code_of_many(rows), place_of_table(rows));
+    offer_unless(best, few, fault_of_many(rows), place_of_table(rows));
 }
 
 /// Offers the faults of a table.
@@ -276,5 +281,10 @@ pub fn check_top(root: &Table, best: &mut Option<Fault>)
     check_keys(root, &before, root, keys_of_file(), best);
     check_strays(&before, keys_of_file(), root, best);
     let has_cores = !lacks_rows(value_at(root, Key::Core));
-    offer_unless(best, has_cores, 604, place_of_table(Rows::Core));
+    offer_unless(
+        best,
+        has_cores,
+        BoardRule::Missing,
+        place_of_table(Rows::Core),
+    );
 }

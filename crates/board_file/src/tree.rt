@@ -1,4 +1,4 @@
-// What stands where in the tree of a board file, and the places of faults.
+//! What stands where in the tree of a board file, and the places of faults.
 ghost use Rattle.std.specs.Prelude.{◌≡◌, Some, None, option_map, unwrap_or, is_some};
 ghost use Rattle.toml.specs.Data.{get_member, no_members};
 ghost use Rattle.toml.specs.View.{view, table_view};

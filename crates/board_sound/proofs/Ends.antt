@@ -13,6 +13,8 @@ use Rattle.board_file.specs.declared.board.End.TheVariants.{Port, File}
 use Rattle.board_file.specs.declared.board.EventRow.{EventRow}
 use Rattle.board_file.specs.declared.board.LinkRow.{LinkRow}
 use Rattle.board_file.specs.declared.board.Pipeline.TheVariants as pipelines
+use Rattle.board_file.specs.declared.fault.BoardRule.{BoardRule}
+use Rattle.board_file.specs.declared.fault.BoardRule.TheVariants as broken
 use Rattle.board_file.specs.declared.keys.Key.{Key}
 use Rattle.board_file.specs.declared.keys.Key.TheVariants as key
 use Rattle.board_file.specs.declared.keys.Quantity.TheVariants as quantity
@@ -111,7 +113,7 @@ not_both a b true true e f g = both_false a b e
 not_both a b false d e f g = grind arith
 not_both a b true false e f g = grind arith
 
-no_code : (holds : Bool) (code : ℕ) → code_if (not holds) code ≡ None → holds ≡ true
+no_code : (holds : Bool) (code : BoardRule) → code_if (not holds) code ≡ None → holds ≡ true
 no_code true code e = refl
 no_code false code e = grind arith
 
@@ -122,7 +124,7 @@ not_two_files network cores name ms link f g e code from to =
     let one = file_made _ _ _ f (rw from at made.from) in
     let other = file_made _ _ _ g (rw to at made.to) in
     not_both (is_end (has key.From ms) (has key.FromPort ms) (has key.FromFile ms)) (is_end (has key.To ms) (has key.ToPort ms) (has key.ToFile ms)) (has key.FromFile ms) (has key.ToFile ms)
-    (no_code _ 610 code) (file_has (at_key key.FromFile ms) f one) (file_has (at_key key.ToFile ms) g other)
+    (no_code _ broken.BadLink code) (file_has (at_key key.FromFile ms) f one) (file_has (at_key key.ToFile ms) g other)
 
 -- an event
 made_event : (name : Option (List ℕ)) (core cycle : Option ℕ) (nonmaskable : Option Bool) (event : EventRow) → event_made name core cycle nonmaskable ≡ Some event → (name ≡ Some event.name) × (core ≡ Some event.core) × (cycle ≡ Some event.cycle)

@@ -20,6 +20,8 @@ use Rattle.board_file.specs.declared.board.LinkRow.{LinkRow}
 use Rattle.board_file.specs.declared.board.UartRow.{UartRow}
 use Rattle.board_file.specs.declared.claims.Claim.{Claim}
 use Rattle.board_file.specs.declared.claims.Subject.TheVariants as subject
+use Rattle.board_file.specs.declared.fault.BoardRule.{BoardRule}
+use Rattle.board_file.specs.declared.fault.BoardRule.TheVariants as broken
 use Rattle.board_file.specs.declared.keys.Key.{Key}
 use Rattle.board_file.specs.declared.keys.Key.TheVariants as key
 use Rattle.board_file.specs.declared.keys.Rows.{Rows}
@@ -69,23 +71,23 @@ same_file : (s : List ℕ) → bytes_eq s s ≡ true
 same_file s = (bytes_eq-Decides s s).1 refl
 
 -- where claims don't collide, an output's claim meets no other one
-unmet : (code : ℕ) (all : List Claim) (at file : List ℕ) (d : Claim) → twice_faults code all ≡ [] → IsAmong (claim_on true at file) all → IsAmong d all → collides (claim_on true at file) d ≡ false
+unmet : (code : BoardRule) (all : List Claim) (at file : List ℕ) (d : Claim) → twice_faults code all ≡ [] → IsAmong (claim_on true at file) all → IsAmong d all → collides (claim_on true at file) d ≡ false
 unfolding twice_faults
 unmet code all at file d e one other =
     let c = claim_on true at file in
     not_met c all d (not_true (list_any (collides c) all) (true_from_nil _ _ _ (free code all all c e one))) other
 
-none_earlier : (code : ℕ) (all : List Claim) (at next file : List ℕ) → twice_faults code all ≡ [] → IsAmong (claim_on true at file) all → IsAmong (claim_on true next file) all → is_earlier next at ≡ false
+none_earlier : (code : BoardRule) (all : List Claim) (at next file : List ℕ) → twice_faults code all ≡ [] → IsAmong (claim_on true at file) all → IsAmong (claim_on true next file) all → is_earlier next at ≡ false
 none_earlier code all at next file e one other = earlier_false (bytes_eq file file) (is_earlier next at) (same_file file) (unmet code all at file (claim_on true next file) e one other)
 
-one_output : (code : ℕ) (all : List Claim) (at next file : List ℕ) → twice_faults code all ≡ [] → IsAmong (claim_on true at file) all → IsAmong (claim_on true next file) all → at ≡ next
+one_output : (code : BoardRule) (all : List Claim) (at next file : List ℕ) → twice_faults code all ≡ [] → IsAmong (claim_on true at file) all → IsAmong (claim_on true next file) all → at ≡ next
 one_output code all at next file e one other = same_place at next (none_earlier code all next at file e other one) (none_earlier code all at next file e one other)
 
 met : (same earlier : Bool) → same ≡ true → (same && (not false || earlier)) ≡ false → ⊥
 met true earlier e f = grind (arith, f)
 met false earlier e f = grind (arith, e)
 
-no_input : (code : ℕ) (all : List Claim) (at next file : List ℕ) → twice_faults code all ≡ [] → IsAmong (claim_on true at file) all → IsAmong (claim_on false next file) all → ⊥
+no_input : (code : BoardRule) (all : List Claim) (at next file : List ℕ) → twice_faults code all ≡ [] → IsAmong (claim_on true at file) all → IsAmong (claim_on false next file) all → ⊥
 no_input code all at next file e one other = met (bytes_eq file file) (is_earlier next at) (same_file file) (unmet code all at file (claim_on false next file) e one other)
 
 -- the file that a link leads to, the one that it comes from, and the image of a core
@@ -139,21 +141,21 @@ pub record IsFromTree (tree : Members) (b : BoardFile) : Type 0 where
   pub uarts : (k : ℕ) (uart : UartRow) → slice_get b.uarts k ≡ Some uart → IsFrom (uart_row b.cores) (rows_in tree rows.Uart) k uart
 
 -- a file that is claimed as an output is not read
-fresh : (tree : Members) (b : BoardFile) → twice_faults 607 (file_claims tree) ≡ [] → IsFromTree tree b → (at file : List ℕ) → IsAmong (claim_on true at file) (file_claims tree) → IsFresh b file
+fresh : (tree : Members) (b : BoardFile) → twice_faults broken.FileTwice (file_claims tree) ≡ [] → IsFromTree tree b → (at file : List ℕ) → IsAmong (claim_on true at file) (file_claims tree) → IsFresh b file
 fresh tree b e from at file claim =
-    let against : (next : List ℕ) → IsAmong (claim_on false next file) (file_claims tree) → ⊥ = λ next. no_input 607 (file_claims tree) at next file e claim in
+    let against : (next : List ℕ) → IsAmong (claim_on false next file) (file_claims tree) → ⊥ = λ next. no_input broken.FileTwice (file_claims tree) at next file e claim in
     record {
       no_image = λ k core there is. let o = from.cores k core there in against (key_place rows.Core o.name key.Image) (image_claimed tree [] k core o file is);
       no_input = λ k link there is. let o = from.links k link there in against (key_place rows.Link o.name key.FromFile) (input_claimed tree b.cores k link o file is);
       no_feed = λ k uart there is. let o = from.uarts k uart there in against (key_place rows.Uart o.name key.Input) (feed_claimed tree b.cores k uart o file is);
     }
 
-pub fresh_link : (tree : Members) (b : BoardFile) → twice_faults 607 (file_claims tree) ≡ [] → IsFromTree tree b → (k : ℕ) (link : LinkRow) (file : List ℕ) → slice_get b.links k ≡ Some link → link.to ≡ File file → IsFresh b file
+pub fresh_link : (tree : Members) (b : BoardFile) → twice_faults broken.FileTwice (file_claims tree) ≡ [] → IsFromTree tree b → (k : ℕ) (link : LinkRow) (file : List ℕ) → slice_get b.links k ≡ Some link → link.to ≡ File file → IsFresh b file
 fresh_link tree b e from k link file there is =
     let o = from.links k link there in
     fresh tree b e from (key_place rows.Link o.name key.ToFile) file (output_claimed tree b.cores k link o file is)
 
-pub fresh_uart : (tree : Members) (b : BoardFile) → twice_faults 607 (file_claims tree) ≡ [] → IsFromTree tree b → (k : ℕ) (uart : UartRow) → slice_get b.uarts k ≡ Some uart → IsFresh b uart.output
+pub fresh_uart : (tree : Members) (b : BoardFile) → twice_faults broken.FileTwice (file_claims tree) ≡ [] → IsFromTree tree b → (k : ℕ) (uart : UartRow) → slice_get b.uarts k ≡ Some uart → IsFresh b uart.output
 fresh_uart tree b e from k uart there =
     let o = from.uarts k uart there in
     fresh tree b e from (key_place rows.Uart o.name key.Output) uart.output (sending_claimed tree b.cores k uart o uart.output refl)
@@ -178,26 +180,26 @@ other_places : (m n : List ℕ) → key_place rows.Link m key.ToFile ≡ key_pla
 unfolding key_text table_key
 other_places m n e = let same = same_head 108 117 _ _ (sym (places_are_paths rows.Link m key.ToFile) ∙ e ∙ places_are_paths rows.Uart n key.Output) in omega (arith, same)
 
-pub lone_link : (network : Bool) (tree : Members) (b : BoardFile) → twice_faults 607 (file_claims tree) ≡ [] → IsFromTree tree b → are_ascending (rows_in tree rows.Link) ≡ true → each_row network tree rows.Link (rows_in tree rows.Link) ≡ []
+pub lone_link : (network : Bool) (tree : Members) (b : BoardFile) → twice_faults broken.FileTwice (file_claims tree) ≡ [] → IsFromTree tree b → are_ascending (rows_in tree rows.Link) ≡ true → each_row network tree rows.Link (rows_in tree rows.Link) ≡ []
     → (j k : ℕ) (one other : LinkRow) (file : List ℕ) → slice_get b.links j ≡ Some one → slice_get b.links k ≡ Some other → one.to ≡ File file → other.to ≡ File file → j ≡ k
 lone_link network tree b e from ascends right j k one other file f g is also =
     let a = from.links j one f in
     let o = from.links k other g in
-    let place = one_output 607 (file_claims tree) (key_place rows.Link a.name key.ToFile) (key_place rows.Link o.name key.ToFile) file e (output_claimed tree b.cores j one a file is) (output_claimed tree b.cores k other o file also) in
+    let place = one_output broken.FileTwice (file_claims tree) (key_place rows.Link a.name key.ToFile) (key_place rows.Link o.name key.ToFile) file e (output_claimed tree b.cores j one a file is) (output_claimed tree b.cores k other o file also) in
     let name = same_name rows.Link key.ToFile a.name o.name short_table short_key (a.right network tree rows.Link right).named (o.right network tree rows.Link right).named place in
     one_place (rows_in tree rows.Link) ascends j k o.name (rw name at a.place) o.place
 
-pub lone_uart : (network : Bool) (tree : Members) (b : BoardFile) → twice_faults 607 (file_claims tree) ≡ [] → IsFromTree tree b → are_ascending (rows_in tree rows.Uart) ≡ true → each_row network tree rows.Uart (rows_in tree rows.Uart) ≡ []
+pub lone_uart : (network : Bool) (tree : Members) (b : BoardFile) → twice_faults broken.FileTwice (file_claims tree) ≡ [] → IsFromTree tree b → are_ascending (rows_in tree rows.Uart) ≡ true → each_row network tree rows.Uart (rows_in tree rows.Uart) ≡ []
     → (j k : ℕ) (one other : UartRow) (file : List ℕ) → slice_get b.uarts j ≡ Some one → slice_get b.uarts k ≡ Some other → one.output ≡ file → other.output ≡ file → j ≡ k
 lone_uart network tree b e from ascends right j k one other file f g is also =
     let a = from.uarts j one f in
     let o = from.uarts k other g in
-    let place = one_output 607 (file_claims tree) (key_place rows.Uart a.name key.Output) (key_place rows.Uart o.name key.Output) file e (sending_claimed tree b.cores j one a file is) (sending_claimed tree b.cores k other o file also) in
+    let place = one_output broken.FileTwice (file_claims tree) (key_place rows.Uart a.name key.Output) (key_place rows.Uart o.name key.Output) file e (sending_claimed tree b.cores j one a file is) (sending_claimed tree b.cores k other o file also) in
     let name = same_name rows.Uart key.Output a.name o.name short_uart short_output (a.right network tree rows.Uart right).named (o.right network tree rows.Uart right).named place in
     one_place (rows_in tree rows.Uart) ascends j k o.name (rw name at a.place) o.place
 
-pub apart_kinds : (tree : Members) (b : BoardFile) → twice_faults 607 (file_claims tree) ≡ [] → IsFromTree tree b → (j k : ℕ) (link : LinkRow) (uart : UartRow) (file : List ℕ) → slice_get b.links j ≡ Some link → slice_get b.uarts k ≡ Some uart → link.to ≡ File file → uart.output ≡ file → ⊥
+pub apart_kinds : (tree : Members) (b : BoardFile) → twice_faults broken.FileTwice (file_claims tree) ≡ [] → IsFromTree tree b → (j k : ℕ) (link : LinkRow) (uart : UartRow) (file : List ℕ) → slice_get b.links j ≡ Some link → slice_get b.uarts k ≡ Some uart → link.to ≡ File file → uart.output ≡ file → ⊥
 apart_kinds tree b e from j k link uart file f g is also =
     let a = from.links j link f in
     let o = from.uarts k uart g in
-    other_places a.name o.name (one_output 607 (file_claims tree) (key_place rows.Link a.name key.ToFile) (key_place rows.Uart o.name key.Output) file e (output_claimed tree b.cores j link a file is) (sending_claimed tree b.cores k uart o file also))
+    other_places a.name o.name (one_output broken.FileTwice (file_claims tree) (key_place rows.Link a.name key.ToFile) (key_place rows.Uart o.name key.Output) file e (output_claimed tree b.cores j link a file is) (sending_claimed tree b.cores k uart o file also))

@@ -21,6 +21,8 @@ use Rattle.board_file.specs.declared.claims.Claim.{Claim}
 use Rattle.board_file.specs.declared.claims.Subject.TheVariants.{OfCore}
 use Rattle.board_file.specs.declared.claims.Usage.{Usage}
 use Rattle.board_file.specs.declared.claims.Usage.TheVariants.{Number}
+use Rattle.board_file.specs.declared.fault.BoardRule.{BoardRule}
+use Rattle.board_file.specs.declared.fault.BoardRule.TheVariants as broken
 use Rattle.board_file.specs.declared.keys.Key.{Key}
 use Rattle.board_file.specs.declared.keys.Key.TheVariants as key
 use Rattle.board_file.specs.declared.keys.KeyRule.TheVariants.{May}
@@ -42,7 +44,7 @@ abbrev pub link_usage : Key → Key → Usage
 link_usage core port = Number rows.Link core port quantity.Port
 
 -- the name of a core that a key gives, where the key has no fault
-judged_core : (tree : Members) (o : Option (List ℕ)) (s : List ℕ) → o ≡ Some s → has_core tree s ≡ true → result_ok {E = ℕ} (judged 608 (core_of tree) o) ≡ Some s
+judged_core : (tree : Members) (o : Option (List ℕ)) (s : List ℕ) → o ≡ Some s → has_core tree s ≡ true → result_ok {E = BoardRule} (judged broken.UnknownCore (core_of tree) o) ≡ Some s
 judged_core tree o s e h = rw (e, h) refl
 
 same_some : (m n : List ℕ) → Some m ≡ Some n → m ≡ n
@@ -85,7 +87,7 @@ claimed tree cores kc kp k c p name ms file named place claims code e =
     }
 
 -- where claims don't collide, no other claim on the same is earlier
-pub free : (code : ℕ) (all cs : List Claim) (c : Claim) → flat_map (claim_faults code all) cs ≡ [] → IsAmong c cs → claim_faults code all c ≡ []
+pub free : (code : BoardRule) (all cs : List Claim) (c : Claim) → flat_map (claim_faults code all) cs ≡ [] → IsAmong c cs → claim_faults code all c ≡ []
 free code all [] c e h = elim h [ ]
 free code all (d ∷ ds) c e (inl same) = rw same at (both_nil (claim_faults code all d) (flat_map (claim_faults code all) ds) e).0
 free code all (d ∷ ds) c e (inr more) = free code all ds c (both_nil (claim_faults code all d) (flat_map (claim_faults code all) ds) e).1 more
@@ -110,7 +112,7 @@ pub earlier_false : (same earlier : Bool) → same ≡ true → (same && (not tr
 earlier_false true earlier e f = f
 earlier_false false earlier e f = grind (arith, e)
 
-none_earlier : (code : ℕ) (all : List Claim) (k : Key) (m n s : List ℕ) (p : ℕ) → twice_faults code all ≡ [] → IsAmong (port_claim k m s p) all → IsAmong (port_claim k n s p) all → is_earlier (key_place rows.Link n k) (key_place rows.Link m k) ≡ false
+none_earlier : (code : BoardRule) (all : List Claim) (k : Key) (m n s : List ℕ) (p : ℕ) → twice_faults code all ≡ [] → IsAmong (port_claim k m s p) all → IsAmong (port_claim k n s p) all → is_earlier (key_place rows.Link n k) (key_place rows.Link m k) ≡ false
 unfolding twice_faults
 none_earlier code all k m n s p e one other =
     let c = port_claim k m s p in
@@ -148,15 +150,15 @@ among_claims : (tree : Members) (kc kp : Key) (c : Claim) → IsAmong c (claims_
 unfolding core_claims claims_by
 among_claims tree kc kp c h = among_first c _ [] h
 
-pub lone : (tree : Members) (cores : List CoreRow) (kc kp : Key) → length (key_text kp) ≤ 9 → twice_faults 609 (core_claims tree (link_usage kc kp ∷ [])) ≡ [] → are_ascending (rows_in tree rows.Link) ≡ true
+pub lone : (tree : Members) (cores : List CoreRow) (kc kp : Key) → length (key_text kp) ≤ 9 → twice_faults broken.PortTwice (core_claims tree (link_usage kc kp ∷ [])) ≡ [] → are_ascending (rows_in tree rows.Link) ≡ true
     → (j k c p : ℕ) → IsClaimed tree cores kc kp j c p → IsClaimed tree cores kc kp k c p → j ≡ k
 lone tree cores kc kp short e ascends j k c p one other =
     let all = core_claims tree (link_usage kc kp ∷ []) in
     let core = (bytes_eq-Decides one.core (name_at cores c)).0 one.same ∙ sym ((bytes_eq-Decides other.core (name_at cores c)).0 other.same) in
     let first = among_claims tree kc kp _ one.claim in
     let second : IsAmong (port_claim kp other.name one.core p) all = rw (sym core) at (among_claims tree kc kp _ other.claim) in
-    let before = none_earlier 609 all kp other.name one.name one.core p e second first in
-    let after = none_earlier 609 all kp one.name other.name one.core p e first second in
+    let before = none_earlier broken.PortTwice all kp other.name one.name one.core p e second first in
+    let after = none_earlier broken.PortTwice all kp one.name other.name one.core p e first second in
     let name = same_name rows.Link kp one.name other.name short_table short one.named other.named (same_place _ _ before after) in
     one_place (rows_in tree rows.Link) ascends j k other.name (rw name at one.place) other.place
 
@@ -180,14 +182,14 @@ get_claimed network tree cores k link c p o right is =
     let to = first_key tree _ o.members key.To _ _ refl from_file.1 in
     claimed tree cores key.To key.ToPort k c p o.name o.members (file_at key.ToFile o.members) right.named o.place o.claims to.0 (rw is at made.to)
 
-pub lone_put : (network : Bool) (tree : Members) (cores : List CoreRow) → twice_faults 609 (core_claims tree puts) ≡ [] → are_ascending (rows_in tree rows.Link) ≡ true → (j k : ℕ) (one other : LinkRow) (c p : ℕ)
+pub lone_put : (network : Bool) (tree : Members) (cores : List CoreRow) → twice_faults broken.PortTwice (core_claims tree puts) ≡ [] → are_ascending (rows_in tree rows.Link) ≡ true → (j k : ℕ) (one other : LinkRow) (c p : ℕ)
     → (a : IsFrom (link_row cores) (rows_in tree rows.Link) j one) → IsRight network tree rows.Link a.name a.members → (b : IsFrom (link_row cores) (rows_in tree rows.Link) k other) → IsRight network tree rows.Link b.name b.members
     → one.from ≡ Port c p → other.from ≡ Port c p → j ≡ k
 unfolding puts key_text
 lone_put network tree cores e ascends j k one other c p a right_a b right_b is_a is_b =
     lone tree cores key.From key.FromPort (omega arith) e ascends j k c p (put_claimed network tree cores j one c p a right_a is_a) (put_claimed network tree cores k other c p b right_b is_b)
 
-pub lone_get : (network : Bool) (tree : Members) (cores : List CoreRow) → twice_faults 609 (core_claims tree gets) ≡ [] → are_ascending (rows_in tree rows.Link) ≡ true → (j k : ℕ) (one other : LinkRow) (c p : ℕ)
+pub lone_get : (network : Bool) (tree : Members) (cores : List CoreRow) → twice_faults broken.PortTwice (core_claims tree gets) ≡ [] → are_ascending (rows_in tree rows.Link) ≡ true → (j k : ℕ) (one other : LinkRow) (c p : ℕ)
     → (a : IsFrom (link_row cores) (rows_in tree rows.Link) j one) → IsRight network tree rows.Link a.name a.members → (b : IsFrom (link_row cores) (rows_in tree rows.Link) k other) → IsRight network tree rows.Link b.name b.members
     → one.to ≡ Port c p → other.to ≡ Port c p → j ≡ k
 unfolding gets key_text

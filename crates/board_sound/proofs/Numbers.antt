@@ -10,17 +10,18 @@ use Rattle.board_file.specs.declared.board.CoreRow.{CoreRow}
 use Rattle.board_file.specs.declared.board.End.{End}
 use Rattle.board_file.specs.declared.board.LinkRow.{LinkRow}
 use Rattle.board_file.specs.declared.board.Pipeline.{Pipeline}
+use Rattle.board_file.specs.declared.fault.BoardRule.{BoardRule}
 use Rattle.board_file.specs.declared.keys.Key.{Key}
 use Rattle.board_file.specs.declared.keys.Key.TheVariants as key
 use Rattle.board_file.specs.declared.keys.Quantity.{Quantity}
 use Rattle.board_file.specs.declared.keys.Quantity.TheVariants as quantity
 use Rattle.board_sound.specs.Sound.{IsClock, IsDepth, IsMemory}
 
-picked : (holds : Bool) (code m n : ℕ) → result_ok (ok_or (only_if holds m) code) ≡ Some n → (holds ≡ true) × (m ≡ n)
+picked : (holds : Bool) (code : BoardRule) (m n : ℕ) → result_ok (ok_or (only_if holds m) code) ≡ Some n → (holds ≡ true) × (m ≡ n)
 picked true code m n e = (refl, grind (arith, e))
 picked false code m n e = grind (arith, e)
 
-judged_number : (q : Quantity) (code : ℕ) (o : Option ℤ) (n : ℕ) → result_ok (judged code (number_of q) o) ≡ Some n → is_number q n ≡ true
+judged_number : (q : Quantity) (code : BoardRule) (o : Option ℤ) (n : ℕ) → result_ok (judged code (number_of q) o) ≡ Some n → is_number q n ≡ true
 judged_number q code None n e = grind (arith, e)
 judged_number q code (Some (pos m)) n e = let h = picked (is_number q m) code m n e in rw h.1 at h.0
 judged_number q code (Some (negsuc m)) n e = grind (arith, e)

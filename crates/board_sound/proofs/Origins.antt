@@ -10,6 +10,7 @@ use Rattle.board_file.specs.Rows.{AreRows, row_in}
 use Rattle.board_file.specs.Rules.{each_row, inner_faults, keys_faults, row_code, row_faults, stray_faults, value_faults}
 use Rattle.board_file.specs.Tree.{inside, row_place}
 use Rattle.board_file.specs.declared.claims.Claim.{Claim}
+use Rattle.board_file.specs.declared.fault.BoardRule.TheVariants as broken
 use Rattle.board_file.specs.declared.keys.Rows.{Rows}
 
 abbrev pub names : Members → List (List ℕ)
@@ -39,10 +40,10 @@ right_row : (network : Bool) (tree : Members) (r : Rows) (name : List ℕ) (ms :
 unfolding row_faults inner_faults
 right_row network tree r name ms e =
     let at = row_place r name in
-    let parts = both_nil (fault_unless (is_board_name name) 606 at) (value_faults network tree r at (table ms)) e in
+    let parts = both_nil (fault_unless (is_board_name name) broken.BadValue at) (value_faults network tree r at (table ms)) e in
     let front = both_nil (keys_faults tree (inside at) ms (row_keys r) ++ stray_faults (inside at) (row_keys r) ms) (fault_at (row_code network r ms) at) parts.1 in
     let keys = both_nil (keys_faults tree (inside at) ms (row_keys r)) (stray_faults (inside at) (row_keys r) ms) front.0 in
-    record { named = true_from_nil (is_board_name name) 606 at parts.0; keys = keys.0; code = none_from_nil (row_code network r ms) at front.1 }
+    record { named = true_from_nil (is_board_name name) broken.BadValue at parts.0; keys = keys.0; code = none_from_nil (row_code network r ms) at front.1 }
 
 -- the row at a place is made of the member at this place of the table
 pub record IsFrom {R : Type 0} (means : List ℕ → Members → Option R) (all : Members) (k : ℕ) (row : R) : Type 0 where

@@ -10,6 +10,7 @@ use Rattle.board_file.specs.Keys.{key_of, tables}
 use Rattle.board_file.specs.Read.{key_code}
 use Rattle.board_file.specs.Rules.{are_few, count_faults, count_members, each_row, is_network, key_faults, keys_faults, many_code, table_faults, top_faults}
 use Rattle.board_file.specs.Tree.{at_key, rows_in, table_place}
+use Rattle.board_file.specs.declared.fault.BoardRule.TheVariants as broken
 use Rattle.board_file.specs.declared.keys.Key.{Key}
 use Rattle.board_file.specs.declared.keys.KeyRule.{KeyRule}
 use Rattle.board_file.specs.declared.keys.Rows.{Rows}
@@ -33,9 +34,9 @@ pub record IsWhole (tree : Members) : Type 0 where
   pub links : IsFaultless tree rows.Link
   pub uarts : IsFaultless tree rows.Uart
   pub events : IsFaultless tree rows.Event
-  pub files : twice_faults 607 (file_claims tree) ≡ []
-  pub puts : twice_faults 609 (core_claims tree puts) ≡ []
-  pub gets : twice_faults 609 (core_claims tree gets) ≡ []
+  pub files : twice_faults broken.FileTwice (file_claims tree) ≡ []
+  pub puts : twice_faults broken.PortTwice (core_claims tree puts) ≡ []
+  pub gets : twice_faults broken.PortTwice (core_claims tree gets) ≡ []
 
 record AreTables (tree : Members) : Type 0 where
   cores : IsFaultless tree rows.Core
@@ -63,8 +64,8 @@ whole tree e =
     let naming = both_nil (within_tables tree) (naming_faults tree) base.0 in
     let within = both_nil (top_faults tree) (flat_map (table_faults tree) tables) naming.0 in
     let tables = each_table tree within.1 in
-    let got = both_nil (twice_faults 607 (file_claims tree) ++ twice_faults 609 (core_claims tree puts)) (twice_faults 609 (core_claims tree gets)) naming.1 in
-    let put = both_nil (twice_faults 607 (file_claims tree)) (twice_faults 609 (core_claims tree puts)) got.0 in
+    let got = both_nil (twice_faults broken.FileTwice (file_claims tree) ++ twice_faults broken.PortTwice (core_claims tree puts)) (twice_faults broken.PortTwice (core_claims tree gets)) naming.1 in
+    let put = both_nil (twice_faults broken.FileTwice (file_claims tree)) (twice_faults broken.PortTwice (core_claims tree puts)) got.0 in
     record { top = within.0; cores = tables.cores; links = tables.links; uarts = tables.uarts; events = tables.events; files = put.0; puts = put.1; gets = got.1 }
 
 -- the rest of the keys are right where all are, and so is the first

@@ -16,6 +16,8 @@ use Rattle.board_file.specs.Rows.{core_row, event_row, link_row, uart_row}
 use Rattle.board_file.specs.Rules.{are_few, count_members, is_empty, is_empty_table, is_network, keys_faults, stray_faults, top_faults}
 use Rattle.board_file.specs.Tree.{are_ascending, at_key, members_in, rows_in, table_place}
 use Rattle.board_file.specs.declared.board.CoreRow.{CoreRow}
+use Rattle.board_file.specs.declared.fault.BoardRule.{BoardRule}
+use Rattle.board_file.specs.declared.fault.BoardRule.TheVariants as broken
 use Rattle.board_file.specs.declared.keys.Key.TheVariants as key
 use Rattle.board_file.specs.declared.keys.Kind.TheVariants as kind
 use Rattle.board_file.specs.declared.keys.KeyRule.TheVariants.{Needs}
@@ -34,7 +36,7 @@ use Rattle.board_sound.specs.Sound.{IsBefore, IsMemory, ReadIsSound}
 not_none : (n : ℕ) → not (n == 0) ≡ true → 1 ≤ n
 not_none n e = grind arith
 
-some_members : (o : Option Members) → result_err {E = ℕ} (ok_or o 605) ≡ None → not (is_empty o) ≡ true → 1 ≤ count_members (unwrap_or o no_members)
+some_members : (o : Option Members) → result_err {E = BoardRule} (ok_or o broken.WrongType) ≡ None → not (is_empty o) ≡ true → 1 ≤ count_members (unwrap_or o no_members)
 some_members None e f = grind arith
 some_members (Some ms) e f = not_none (count_members ms) f
 
@@ -46,7 +48,7 @@ some_rows tree (Some d) e f = some_members (as_table d) e f
 some_cores : (tree : Members) → top_faults tree ≡ [] → 1 ≤ count_members (rows_in tree rows.Core)
 unfolding top_faults top_keys rows_in table_key
 some_cores tree e =
-    let last = both_nil (keys_faults tree [] tree top_keys ++ stray_faults [] top_keys tree) (fault_unless (not (is_empty_table (at_key key.Core tree))) 604 (table_place rows.Core)) e in
+    let last = both_nil (keys_faults tree [] tree top_keys ++ stray_faults [] top_keys tree) (fault_unless (not (is_empty_table (at_key key.Core tree))) broken.Missing (table_place rows.Core)) e in
     let keys = both_nil (keys_faults tree [] tree top_keys) (stray_faults [] top_keys tree) last.0 in
     let version = first_key tree [] tree key.Version _ _ refl keys.0 in
     let order = first_key tree [] tree key.Order _ _ refl version.1 in

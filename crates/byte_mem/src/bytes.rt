@@ -1,3 +1,4 @@
+//! A memory, kept as words.
 ghost use Rattle.byte_mem.specs.Access.{bytes_of, fits, loaded, overwritten, stored};
 ghost use Rattle.byte_mem.specs.Sizes.{IsFaultOf, IsSize};
 ghost use Rattle.std.specs.Prelude.{length, replicate, slice_get, slice_set, IfErr, IfOk, IsOk, IsTrue, ◌≡◌, ◌%◌, ◌<◌, ◌↔◌};

@@ -4,6 +4,19 @@ ghost use Rattle.std.specs.Prelude.{slice_range, ◌≡◌, ◌+◌, ◌≤◌};
 
 use core_regs::{Order, Size};
 
+/// How many bytes an access has.
+#[inline(always)]
+pub fn bytes_of(size: Size) -> u32
+    ensures value { result ≡ bytes_of size }
+    ensures some { 1 ≤ result }
+{
+    match size {
+        Size::Byte => 1,
+        Size::Half => 2,
+        Size::Word => 4,
+    }
+}
+
 /// The number that `size` bytes from place `at` on stand for.
 pub(crate) fn read_lanes(word: [u8; 4], at: usize, size: Size, order: Order) -> u32
     requires { at + bytes_of size ≤ 4 }

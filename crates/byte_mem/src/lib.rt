@@ -1,4 +1,13 @@
 //! The private memory of a core: bytes by address, read and written in either byte order.
+//!
+//! A `Memory` has from 4,096 to 1,048,576 bytes, of 0 at first; contracts see it as the list of its bytes. An access of a
+//! `Size` at an address that is a multiple of `bytes_of(size)` reads or writes it, or answers `Outside`.
+//!
+//! ```text
+//! let mut memory = Memory::new(rt.alloc(), 4_096)?;
+//! memory.write(8, Size::Half, Order::Big, 0x1234)?; // byte 8 is 0x12
+//! let low = memory.read(8, Size::Byte, Order::Big)?;
+//! ```
 #![tactic(auto)]
 
 mod bytes;
@@ -6,6 +15,7 @@ mod lanes;
 mod laws;
 
 pub use bytes::{Memory, MemoryFault, Outside};
+pub use lanes::bytes_of;
 pub use laws::{copy_laws, store_laws};
 
 #[cfg(test)]

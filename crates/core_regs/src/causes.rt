@@ -1,3 +1,4 @@
+//! What cores are told and tell: orders and sizes of accesses, takes, waits, and why a core stopped.
 /// The byte order of a core's memory and bus accesses.
 #[derive(Clone, Copy, PartialEq, Eq, Debug)]
 pub enum Order {

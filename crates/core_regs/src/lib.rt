@@ -1,4 +1,15 @@
 //! The registers of a MicroBlaze core, its machine status register, and the small types that all layers share.
+//!
+//! `Arch` is all of a core but its memory (UG984, Registers): the general purpose registers, pc, `Msr` and the other special
+//! registers, and what is held between two instructions. Register 0 reads 0, so registers are read by `get` and written
+//! by `set` or a `Write`; bits of MSR by `has` and `put_flag`. The small types are `Order` and `Size` of an access, `Take`
+//! (an interrupt or a break), `WaitOn` (a port) and `StopCause`.
+//!
+//! ```text
+//! let mut arch = Arch::fresh(0x50, Order::Big, false); // a big-endian core that begins at 0x50
+//! arch.set(3, 7);
+//! arch.put_flag(Msr::IE, true);
+//! ```
 #![tactic(auto)]
 
 mod causes;

@@ -1,4 +1,5 @@
-ghost use Rattle.core_regs.specs.State.{fresh, has, reg, status_word, with_flag, with_reg, with_status, write_of, written};
+//! The registers of a core, and the writes of results.
+ghost use Rattle.core_regs.specs.State.{exceptions_on, fresh, has, reg, status_word, with_flag, with_reg, with_status, write_of, written};
 ghost use Rattle.std.specs.Prelude.{◌≡◌, ◌<◌, IfSome};
 
 use crate::causes::{Order, StopCause};
@@ -135,6 +136,13 @@ impl Arch {
         ensures { result ≡ has named.0 self.now }
     {
         self.msr.bits() & named.bits() != 0
+    }
+
+    /// Whether a fault is raised: EE is set, and EIP is not.
+    pub fn exceptions_on(&self) -> bool
+        ensures { result ≡ exceptions_on self.now }
+    {
+        self.has(Msr::EE) && !self.has(Msr::EIP)
     }
 
     /// Sets or clears a bit of MSR.

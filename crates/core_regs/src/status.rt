@@ -1,3 +1,4 @@
+//! MSR, by the names of its bits.
 ghost use Rattle.std.specs.Prelude.{⊤, [], ◌∷◌, codes};
 
 use bitflags::{Flag, Flags, bitflag_items};

@@ -2,7 +2,8 @@
 use Rattle.std.proofs.Common.{◌≡◌, Bool, true, false, List, [], ◌∷◌, ◌++◌, ℕ, ◌+◌, ◌<◌, refl, ap, cond, get_or, take, drop, length, flat_map, add-one, drop-cons, sym, ◌∙◌, Option, Some, None}
 use Rattle.std.proofs.lemmas.Grind.{take_at_read}
 use Rattle.std.specs.List.{list_any}
-use Rattle.elf_image.specs.Tests.{Test, first_failing, overlap_tests, shares_byte}
+use Rattle.elf_image.specs.Tests.{Test, fault_at, first_failing, overlap_tests, shares_byte}
+use Rattle.elf_image.specs.declared.fault.ElfRule.TheVariants as broken
 use Rattle.elf_image.specs.declared.fault.Fault.{Fault}
 use Rattle.elf_image.specs.declared.segment.ProgramHeader.{ProgramHeader}
 
@@ -39,17 +40,17 @@ none_here T xs i d h here same = ap (λ o. or_else o (first_failing (flat_map T 
 -- each segment against those before it: the next, and then those after it
 overlap_next : (hs : List ProgramHeader) (i : ℕ) (d : ProgramHeader) → i < length hs
     → first_failing (overlap_tests (take i hs) (drop i hs))
-    ≡ cond (list_any (shares_byte (get_or hs i d)) (take i hs)) (Some (record { code = 711; at = (get_or hs i d).index })) (first_failing (overlap_tests (take (i + 1) hs) (drop (i + 1) hs)))
+    ≡ cond (list_any (shares_byte (get_or hs i d)) (take i hs)) (Some (fault_at broken.Overlap (get_or hs i d).index)) (first_failing (overlap_tests (take (i + 1) hs) (drop (i + 1) hs)))
 overlap_next hs i d h = rw ((take_at_read hs i d h).1, add-one, drop-cons hs i d) refl
 
 pub overlap_here : (hs : List ProgramHeader) (i : ℕ) (d : ProgramHeader) → i < length hs → true ≡ list_any (shares_byte (get_or hs i d)) (take i hs)
     → first_failing (overlap_tests (take i hs) (drop i hs)) ≡ first_failing (overlap_tests [] hs)
-    → Some (record { code = 711; at = (get_or hs i d).index }) ≡ first_failing (overlap_tests [] hs)
+    → Some (fault_at broken.Overlap (get_or hs i d).index) ≡ first_failing (overlap_tests [] hs)
 overlap_here hs i d h here same =
-    ap (λ b. cond b (Some (record { code = 711; at = (get_or hs i d).index })) (first_failing (overlap_tests (take (i + 1) hs) (drop (i + 1) hs)))) here ∙ sym (overlap_next hs i d h) ∙ same
+    ap (λ b. cond b (Some (fault_at broken.Overlap (get_or hs i d).index)) (first_failing (overlap_tests (take (i + 1) hs) (drop (i + 1) hs)))) here ∙ sym (overlap_next hs i d h) ∙ same
 
 pub no_overlap_here : (hs : List ProgramHeader) (i : ℕ) (d : ProgramHeader) → i < length hs → false ≡ list_any (shares_byte (get_or hs i d)) (take i hs)
     → first_failing (overlap_tests (take i hs) (drop i hs)) ≡ first_failing (overlap_tests [] hs)
     → first_failing (overlap_tests (take (i + 1) hs) (drop (i + 1) hs)) ≡ first_failing (overlap_tests [] hs)
 no_overlap_here hs i d h here same =
-    ap (λ b. cond b (Some (record { code = 711; at = (get_or hs i d).index })) (first_failing (overlap_tests (take (i + 1) hs) (drop (i + 1) hs)))) here ∙ sym (overlap_next hs i d h) ∙ same
+    ap (λ b. cond b (Some (fault_at broken.Overlap (get_or hs i d).index)) (first_failing (overlap_tests (take (i + 1) hs) (drop (i + 1) hs)))) here ∙ sym (overlap_next hs i d h) ∙ same

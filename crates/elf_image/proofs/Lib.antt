@@ -2,4 +2,9 @@ pub mod Apart
 pub mod Firsts
 pub mod Loadable
 pub mod Loaded
+pub mod ReadsBack
 pub mod Shared
+pub mod WrittenFields
+pub mod WrittenLoads
+pub mod WrittenLoops
+pub mod WrittenTests

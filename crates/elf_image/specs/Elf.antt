@@ -1,8 +1,8 @@
 -- The image that an ELF32 executable has, or why it has none.
-use Rattle.std.specs.Prelude.{◌≡◌, ℕ, ◌<◌, ◌≤◌, ◌+◌, ◌-◌, ◌%◌, ◌==◌, List, length, take, drop, map, filter, Some, None}
+use Rattle.std.specs.Prelude.{◌≡◌, ℕ, ◌<◌, ◌≤◌, ◌+◌, ◌-◌, ◌%◌, ◌==◌, List, length, take, drop, map, filter, option_map, Some, None}
 use Rattle.std.specs.List.{All, AllPairs, Any}
 use Rattle.elf_image.specs.Fields.{e_entry, loads, order_of}
-use Rattle.elf_image.specs.Tests.{first_failing, has_bytes, tests}
+use Rattle.elf_image.specs.Tests.{first_failing, has_bytes, refusal, tests}
 use Rattle.elf_image.specs.declared.fault.ElfFault.{ElfFault}
 use Rattle.elf_image.specs.declared.fault.ElfFault.TheVariants.{NoMemory, Refused}
 use Rattle.elf_image.specs.declared.image.Image.{Image}
@@ -31,7 +31,7 @@ ElfOf file memory image = (first_failing (tests file memory) ≡ None) × (image
 
 -- why there is no image: the first test that fails, or want of memory, which is left open
 abbrev pub IsRefusal : List ℕ → ℕ → ElfFault → Type 0
-IsRefusal file memory (Refused code at) = first_failing (tests file memory) ≡ Some (record { code = code; at = at })
+IsRefusal file memory (Refused code at) = option_map refusal (first_failing (tests file memory)) ≡ Some (Refused code at)
 IsRefusal file memory NoMemory = Unit {0}
 
 -- a part lies in a memory of this size

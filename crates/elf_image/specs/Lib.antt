@@ -2,3 +2,4 @@ pub mod Elf
 pub mod Fields
 pub mod Ranges
 pub mod Tests
+pub mod Written

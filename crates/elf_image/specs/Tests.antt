@@ -3,16 +3,42 @@ use Rattle.std.specs.Prelude.{ℕ, ◌≤◌, ◌<◌, ◌+◌, ◌*◌, ◌%◌
 use Rattle.std.specs.List.{list_any}
 use Rattle.std.specs.Str.{bytes_eq}
 use Rattle.elf_image.specs.Fields.{e_entry, e_machine, e_phentsize, e_phnum, e_phoff, e_type, e_version, ei_class, ei_data, ei_version, loads}
+use Rattle.elf_image.specs.declared.fault.ElfFault.{ElfFault}
+use Rattle.elf_image.specs.declared.fault.ElfFault.TheVariants.{Refused}
+use Rattle.elf_image.specs.declared.fault.ElfRule.{ElfRule}
+use Rattle.elf_image.specs.declared.fault.ElfRule.TheVariants as broken
 use Rattle.elf_image.specs.declared.fault.Fault.{Fault}
 use Rattle.elf_image.specs.declared.segment.ProgramHeader.{ProgramHeader}
+
+-- the code of each fault
+abbrev pub code_of : ElfRule → ℕ
+code_of broken.NoMagic = 701
+code_of broken.UnknownFormat = 702
+code_of broken.UnknownVersion = 703
+code_of broken.NotExecutable = 704
+code_of broken.OtherMachine = 705
+code_of broken.PastFileEnd = 706
+code_of broken.OtherHeaderSize = 707
+code_of broken.NothingToLoad = 708
+code_of broken.PastMemoryEnd = 709
+code_of broken.MoreThanItsMemory = 710
+code_of broken.Overlap = 711
+code_of broken.BadEntry = 712
+
+abbrev pub fault_at : ElfRule → ℕ → Fault
+fault_at rule at = record { rule = rule; at = at }
+
+-- the answer to a file with this fault
+abbrev pub refusal : Fault → ElfFault
+refusal f = Refused (code_of f.rule) f.at
 
 -- a test: whether it fails, and the fault that it then is
 pub record Test : Type 0 where
   pub fails : Bool
   pub fault : Fault
 
-abbrev pub test : Bool → ℕ → ℕ → Test
-test fails code at = record { fails = fails; fault = record { code = code; at = at } }
+abbrev pub test : Bool → ElfRule → ℕ → Test
+test fails rule at = record { fails = fails; fault = fault_at rule at }
 
 -- the first of the tests that fails
 abbrev pub first_failing : List Test → Option Fault
@@ -30,29 +56,29 @@ abbrev pub has_magic : List ℕ → Bool
 has_magic file = bytes_eq (take 4 file) (127 ∷ 69 ∷ 76 ∷ 70 ∷ [])
 
 abbrev pub magic_test : List ℕ → Test
-magic_test file = test (not (has_magic file)) 701 0
+magic_test file = test (not (has_magic file)) broken.NoMagic 0
 
 -- an Elf32_Ehdr has 52 bytes
 abbrev pub length_test : List ℕ → Test
-length_test file = test (nat_lt (length file) 52) 706 0
+length_test file = test (nat_lt (length file) 52) broken.PastFileEnd 0
 
 abbrev pub ident_test : List ℕ → Test
-ident_test file = test (not (ei_class file == 1) || not (ei_data file == 1 || ei_data file == 2)) 702 4
+ident_test file = test (not (ei_class file == 1) || not (ei_data file == 1 || ei_data file == 2)) broken.UnknownFormat 4
 
 abbrev pub version_test : List ℕ → Test
-version_test file = test (not (ei_version file == 1) || not (e_version file == 1)) 703 6
+version_test file = test (not (ei_version file == 1) || not (e_version file == 1)) broken.UnknownVersion 6
 
 abbrev pub type_test : List ℕ → Test
-type_test file = test (not (e_type file == 2)) 704 16
+type_test file = test (not (e_type file == 2)) broken.NotExecutable 16
 
 abbrev pub machine_test : List ℕ → Test
-machine_test file = test (not (e_machine file == 189 || e_machine file == 0xBAAB)) 705 18
+machine_test file = test (not (e_machine file == 189 || e_machine file == 0xBAAB)) broken.OtherMachine 18
 
 abbrev pub entry_size_test : List ℕ → Test
-entry_size_test file = test (not (e_phnum file == 0) && not (e_phentsize file == 32)) 707 42
+entry_size_test file = test (not (e_phnum file == 0) && not (e_phentsize file == 32)) broken.OtherHeaderSize 42
 
 abbrev pub table_test : List ℕ → Test
-table_test file = test (passes (length file) (e_phoff file) (32 * e_phnum file)) 706 (e_phoff file)
+table_test file = test (passes (length file) (e_phoff file) (32 * e_phnum file)) broken.PastFileEnd (e_phoff file)
 
 unfoldable pub header_tests : List ℕ → List Test
 header_tests file =
@@ -69,13 +95,13 @@ header_tests file =
 -- The tests of one PT_LOAD, in a file of this size and for a memory of this size.
 
 abbrev pub sizes_test : ProgramHeader → Test
-sizes_test h = test (nat_lt h.p_memsz h.p_filesz) 710 h.index
+sizes_test h = test (nat_lt h.p_memsz h.p_filesz) broken.MoreThanItsMemory h.index
 
 abbrev pub bytes_test : ℕ → ProgramHeader → Test
-bytes_test size h = test (passes size h.p_offset h.p_filesz) 706 h.p_offset
+bytes_test size h = test (passes size h.p_offset h.p_filesz) broken.PastFileEnd h.p_offset
 
 abbrev pub memory_test : ℕ → ProgramHeader → Test
-memory_test memory h = test (passes memory h.p_vaddr h.p_memsz) 709 h.index
+memory_test memory h = test (passes memory h.p_vaddr h.p_memsz) broken.PastMemoryEnd h.index
 
 unfoldable pub segment_tests : ℕ → ℕ → ProgramHeader → List Test
 segment_tests size memory h = sizes_test h ∷ bytes_test size h ∷ memory_test memory h ∷ []
@@ -87,7 +113,7 @@ abbrev pub has_bytes : ProgramHeader → Bool
 has_bytes h = nat_lt 0 h.p_memsz
 
 abbrev pub presence_test : List ProgramHeader → Test
-presence_test all = test (not (list_any has_bytes all)) 708 0
+presence_test all = test (not (list_any has_bytes all)) broken.NothingToLoad 0
 
 -- the address after a segment's last byte in memory, without a wrap at 2^32
 abbrev pub end_of : ProgramHeader → ℕ
@@ -98,7 +124,7 @@ abbrev pub shares_byte : ProgramHeader → ProgramHeader → Bool
 shares_byte h g = has_bytes h && has_bytes g && nat_lt h.p_vaddr (end_of g) && nat_lt g.p_vaddr (end_of h)
 
 abbrev pub overlap_test : List ProgramHeader → ProgramHeader → Test
-overlap_test earlier h = test (list_any (shares_byte h) earlier) 711 h.index
+overlap_test earlier h = test (list_any (shares_byte h) earlier) broken.Overlap h.index
 
 -- each segment against all that stand before it
 abbrev pub overlap_tests : List ProgramHeader → List ProgramHeader → List Test
@@ -110,7 +136,7 @@ abbrev pub holds : ℕ → ProgramHeader → Bool
 holds address h = not (nat_lt address h.p_vaddr) && nat_lt address (end_of h)
 
 abbrev pub entry_test : List ProgramHeader → ℕ → Test
-entry_test all entry = test (not (entry % 4 == 0 && list_any (holds entry) all)) 712 entry
+entry_test all entry = test (not (entry % 4 == 0 && list_any (holds entry) all)) broken.BadEntry entry
 
 unfoldable pub load_tests : ℕ → ℕ → ℕ → List ProgramHeader → List Test
 load_tests size memory entry all =

@@ -1,3 +1,4 @@
+//! The fields of an ELF32 file, in the byte order that it names.
 ghost use Rattle.std.specs.Prelude.{◌≡◌, ◌+◌, ◌≤◌, length};
 ghost use Rattle.elf_image.specs.Fields.{number_at, order_of, half, word};
 

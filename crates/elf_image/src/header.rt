@@ -1,8 +1,9 @@
+//! The tests of the header, in their order.
 ghost use Rattle.std.specs.Prelude.{◌≡◌, ◌≤◌, ◌*◌, false, length, IfNone};
 ghost use Rattle.elf_image.specs.Fields.{e_phnum, e_phoff};
 ghost use Rattle.elf_image.specs.Tests.{first_failing, has_magic, header_tests, passes};
 
-use crate::fault::Fault;
+use crate::fault::{ElfRule, Fault};
 use crate::field::{file_half, file_word};
 
 const ELFCLASS32: u8 = 1;
@@ -40,34 +41,31 @@ pub fn header_fault(file: &[u8]) -> Option<Fault>
     ensures within { IfNone result (passes (length file.now) (e_phoff file.now) (32 * e_phnum file.now) ≡ false) }
 {
     if !begins_as_elf(file) {
-        return Some(Fault { code: 701, at: 0 });
+        return Some(ElfRule::NoMagic.at(0));
     }
     if file.len() < 52 {
-        return Some(Fault { code: 706, at: 0 });
+        return Some(ElfRule::PastFileEnd.at(0));
     }
     if file[4] != ELFCLASS32 || !(file[5] == ELFDATA2LSB || file[5] == ELFDATA2MSB) {
-        return Some(Fault { code: 702, at: 4 });
+        return Some(ElfRule::UnknownFormat.at(4));
     }
     if file[6] != EV_CURRENT || file_word(file, 20) != u32::from(EV_CURRENT) {
-        return Some(Fault { code: 703, at: 6 });
+        return Some(ElfRule::UnknownVersion.at(6));
     }
     if file_half(file, 16) != ET_EXEC {
-        return Some(Fault { code: 704, at: 16 });
+        return Some(ElfRule::NotExecutable.at(16));
     }
     let machine = file_half(file, 18);
     if !(machine == EM_MICROBLAZE || machine == EM_MICROBLAZE_OLD) {
-        return Some(Fault { code: 705, at: 18 });
+        return Some(ElfRule::OtherMachine.at(18));
     }
     let count = file_half(file, 44);
     if count != 0 && file_half(file, 42) != 32 {
-        return Some(Fault { code: 707, at: 42 });
+        return Some(ElfRule::OtherHeaderSize.at(42));
     }
     let start = file_word(file, 28);
     if passes_end(file.len() as u64, start, 32 * u32::from(count)) {
-        return Some(Fault {
-            code: 706,
-            at: start,
-        });
+        return Some(ElfRule::PastFileEnd.at(start));
     }
     None
 }

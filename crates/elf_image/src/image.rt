@@ -1,3 +1,4 @@
+//! An image: where it starts, and its parts.
 ghost use Rattle.std.specs.Prelude.{◌≡◌, ◌↔◌, ◌<◌, Some, IsSome, IfSome, length, slice_get};
 
 use core_regs::Order;

@@ -1,3 +1,4 @@
+//! What the test of overlaps means.
 ghost use Rattle.std.specs.Prelude.{◌≡◌, ◌↔◌, true};
 ghost use Rattle.elf_image.specs.Tests.{SharesByte, shares_byte};
 ghost use Rattle.elf_image.specs.declared.segment.ProgramHeader.{ProgramHeader};

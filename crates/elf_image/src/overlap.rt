@@ -1,3 +1,4 @@
+//! The test that no two segments share a byte in memory, in n log n steps for n segments.
 ghost use Rattle.std.specs.Prelude.{◌≡◌, ◌++◌, ◌∷◌, [], List, OnOk, IfOk, false, true, length};
 ghost use Rattle.std.specs.BTreeMap.{get};
 ghost use Rattle.std.specs.List.{list_any};
@@ -6,8 +7,9 @@ ghost use Rattle.elf_image.specs.Ranges.{IsLastBelow, Keeps};
 ghost use Rattle.elf_image.specs.Tests.{first_failing, overlap_tests, shares_byte};
 ghost use Rattle.elf_image.specs.declared.segment.ProgramHeader.{ProgramHeader};
 
-use crate::fault::{Fault, NoMemory};
+use crate::fault::{ElfRule, Fault};
 use crate::segment::ProgramHeader;
+use host_io::NoMemory;
 use std::alloc::Global;
 use std::collections::BTreeMap;
 
@@ -57,10 +59,8 @@ impl Ranges {
         if !header.has_bytes() {
             return Ok(());
         }
-        match self.ends.insert(header.start(), header.end()) {
-            Ok(_) => Ok(()),
-            Err(_) => Err(NoMemory),
-        }
+        self.ends.insert(header.start(), header.end())?;
+        Ok(())
     }
 }
 
@@ -71,10 +71,7 @@ pub fn overlap_fault(alloc: Global, loads: &[ProgramHeader]) -> Result<Option<Fa
     let mut ranges = Ranges::new(alloc);
     for header in loads {
         if ranges.meets(header) {
-            return Ok(Some(Fault {
-                code: 711,
-                at: header.index,
-            }));
+            return Ok(Some(ElfRule::Overlap.at(header.index)));
         }
         ranges.add(header)?;
     }

@@ -1,10 +1,10 @@
-ghost use Rattle.std.specs.Prelude.{◌≡◌, ◌++◌, ◌∷◌, [], drop, take, IfOk, OnOk};
+//! What the segments of a file load.
+ghost use Rattle.std.specs.Prelude.{◌≡◌, ◌++◌, ◌∷◌, [], drop, IfOk, OnOk};
 ghost use Rattle.elf_image.specs.Elf.{part_of, parts_of};
 
-use crate::fault::NoMemory;
 use crate::image::{Part, Parts};
 use crate::segment::ProgramHeader;
-use host_io::Blob;
+use host_io::{Blob, NoMemory, first_of};
 use std::alloc::Global;
 
 const PF_X: u32 = 1;
@@ -16,24 +16,13 @@ fn rest_of(bytes: &[u8], at: usize) -> &[u8]
     if bytes.len() <= at { &[] } else { &bytes[at..] }
 }
 
-/// The first `most` bytes, or all where there are fewer.
-fn first_of(bytes: &[u8], most: usize) -> &[u8]
-    ensures { result.now ≡ take most bytes.now }
-{
-    if bytes.len() <= most {
-        bytes
-    } else {
-        &bytes[..most]
-    }
-}
-
 /// What a segment loads.
 fn part_from(alloc: Global, file: &[u8], header: &ProgramHeader) -> Result<Part, NoMemory>
     ensures { IfOk result (λ part. part ≡ part_of file.now header.now) }
 {
     let rest = rest_of(file, header.p_offset as usize);
     let bytes = first_of(rest, header.p_filesz as usize);
-    let bytes = Vec::from_slice(alloc, bytes).map_err(|_| NoMemory)?;
+    let bytes = Vec::from_slice(alloc, bytes)?;
     Ok(Part {
         addr: header.p_vaddr,
         bytes: Blob::from_vec(bytes),
@@ -56,7 +45,8 @@ fn add_part(
         return Ok(());
     }
     let part = part_from(alloc, file, header)?;
-    parts.push(part).map_err(|_| NoMemory)
+    parts.push(part)?;
+    Ok(())
 }
 
 /// What the segments load, in file order.

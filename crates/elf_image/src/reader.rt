@@ -1,16 +1,18 @@
+//! The tests of the segments, and the image of a file that passes all tests.
 ghost use Rattle.std.specs.Prelude.{◌≡◌, ◌≤◌, ◌*◌, ◌∷◌, [], ◌++◌, false, length, IfOk, IfErr, OnOk, filter, flat_map};
 ghost use Rattle.std.specs.List.{list_any};
 ghost use Rattle.elf_image.specs.Elf.{ElfOf, IsLoadable, IsRefusal};
 ghost use Rattle.elf_image.specs.Fields.{e_phnum, e_phoff, first_loads, is_load, loads};
 ghost use Rattle.elf_image.specs.Tests.{entry_test, first_failing, has_bytes, holds, load_tests, passes, segment_tests};
 
-use crate::fault::{ElfFault, Fault, NoMemory};
+use crate::fault::{ElfFault, ElfRule, Fault};
 use crate::field::{file_half, file_word, order};
 use crate::header::{header_fault, passes_end};
 use crate::image::Image;
 use crate::overlap::overlap_fault;
 use crate::parts::read_parts;
 use crate::segment::ProgramHeader;
+use host_io::NoMemory;
 use std::alloc::Global;
 
 /// Keeps a program header that is a PT_LOAD.
@@ -20,7 +22,8 @@ fn keep_load(loads: &mut Vec<ProgramHeader>, header: ProgramHeader) -> Result<()
     if !header.is_load() {
         return Ok(());
     }
-    loads.push(header).map_err(|_| NoMemory)
+    loads.push(header)?;
+    Ok(())
 }
 
 /// The PT_LOADs, in file order.
@@ -46,22 +49,13 @@ fn segment_fault(size: u64, memory: u64, header: &ProgramHeader) -> Option<Fault
     ensures { result ≡ first_failing (segment_tests size memory header.now) }
 {
     if header.p_filesz > header.p_memsz {
-        return Some(Fault {
-            code: 710,
-            at: header.index,
-        });
+        return Some(ElfRule::MoreThanItsMemory.at(header.index));
     }
     if passes_end(size, header.p_offset, header.p_filesz) {
-        return Some(Fault {
-            code: 706,
-            at: header.p_offset,
-        });
+        return Some(ElfRule::PastFileEnd.at(header.p_offset));
     }
     if passes_end(memory, header.p_vaddr, header.p_memsz) {
-        return Some(Fault {
-            code: 709,
-            at: header.index,
-        });
+        return Some(ElfRule::PastMemoryEnd.at(header.index));
     }
     None
 }
@@ -98,10 +92,7 @@ fn entry_fault(loads: &[ProgramHeader], entry: u32) -> Option<Fault>
     if entry % 4 == 0 && any_holds(loads, entry) {
         return None;
     }
-    Some(Fault {
-        code: 712,
-        at: entry,
-    })
+    Some(ElfRule::BadEntry.at(entry))
 }
 
 /// The first test of the segments that fails.
@@ -119,7 +110,7 @@ fn loads_fault(
         return Ok(Some(fault));
     }
     if !any_has_bytes(loads) {
-        return Ok(Some(Fault { code: 708, at: 0 }));
+        return Ok(Some(ElfRule::NothingToLoad.at(0)));
     }
     if let Some(fault) = overlap_fault(alloc, loads)? {
         return Ok(Some(fault));
@@ -157,17 +148,16 @@ pub fn read_elf(alloc: Global, file: &[u8], memory: u64) -> Result<Image, ElfFau
     ensures loadable { IfOk result (IsLoadable memory) }
     ensures err { IfErr result (IsRefusal file.now memory) }
 {
-    if let Some(Fault { code, at }) = header_fault(file) {
-        return Err(ElfFault::Refused { code, at });
+    if let Some(fault) = header_fault(file) {
+        return Err(fault.refusal());
     }
-    let loads = read_loads(alloc, file).map_err(|_| ElfFault::NoMemory)?;
+    let loads = read_loads(alloc, file)?;
     let entry = file_word(file, 24);
     let size = file.len() as u64;
-    let fault = loads_fault(alloc, size, memory, entry, &loads).map_err(|_| ElfFault::NoMemory)?;
-    if let Some(Fault { code, at }) = fault {
-        return Err(ElfFault::Refused { code, at });
+    if let Some(fault) = loads_fault(alloc, size, memory, entry, &loads)? {
+        return Err(fault.refusal());
     }
-    let parts = read_parts(alloc, file, &loads).map_err(|_| ElfFault::NoMemory)?;
+    let parts = read_parts(alloc, file, &loads)?;
     Ok(Image {
         order: order(file),
         entry,

@@ -1,3 +1,4 @@
+//! Program headers, and what their segments have in memory.
 ghost use Rattle.std.specs.Prelude.{◌≡◌, ◌≤◌, ◌+◌, length, OnOk, ◌++◌};
 ghost use Rattle.elf_image.specs.Fields.{e_phnum, e_phoff, first_loads, half, header_at, is_load, loads, program_header, word};
 ghost use Rattle.elf_image.specs.Tests.{end_of, has_bytes, holds};

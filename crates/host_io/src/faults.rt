@@ -6,7 +6,7 @@ ghost use Rattle.host_io.specs.declared.faults.StoreFault.TheVariants.{NoMemory 
 ghost use Rattle.host_io.specs.Outside.{CountsLoadFault, CountsWriteFault};
 
 use crate::FileName;
-use std::alloc::AllocError;
+use std::alloc::{AllocError, AllocFailed};
 
 /// How a load fails.
 #[derive(Clone, Copy, Debug, PartialEq, Eq)]
@@ -26,6 +26,22 @@ pub enum StoreFault {
     Failed,
     /// There was no memory for the bytes.
     NoMemory,
+}
+
+/// Memory was refused. A call that takes memory, and can fail in no other way, fails so.
+#[derive(Clone, Copy, Debug, PartialEq, Eq)]
+pub struct NoMemory;
+
+impl From<AllocError> for NoMemory {
+    fn from(_error: AllocError) -> Self {
+        NoMemory
+    }
+}
+
+impl<T: Drop> From<AllocFailed<T>> for NoMemory {
+    fn from(_error: AllocFailed<T>) -> Self {
+        NoMemory
+    }
 }
 
 /// A read that failed. The source has counted a fault.

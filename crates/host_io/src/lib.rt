@@ -30,7 +30,7 @@ mod texts;
 mod traits;
 
 pub use blob::{Blob, Blobs};
-pub use faults::{LoadFault, ReadFailed, ShelfFaults, StoreFault};
+pub use faults::{LoadFault, NoMemory, ReadFailed, ShelfFaults, StoreFault};
 pub use files::MemFile;
 pub use names::{FileName, Name, is_file_name};
 pub use plan::Failing;

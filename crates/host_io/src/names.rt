@@ -1,6 +1,7 @@
 //! Names, kept in fixed room.
 ghost use Rattle.std.specs.Prelude.{◌≡◌, ◌↔◌, ◌≤◌, List, ℕ, IsTrue, IfSome, is_some, length};
 ghost use Rattle.std.specs.List.{list_all};
+ghost use Rattle.std.specs.Str.{bytes_eq};
 ghost use Rattle.host_io.specs.Names.{is_name, is_file_name, is_file_byte, begins_well};
 
 use arrayvec::ArrayString;
@@ -129,9 +130,10 @@ impl FileName {
 
     /// Whether both names are one text.
     pub fn is(&self, other: &FileName) -> bool
-        ensures { IsTrue result ↔ (self.now ≡ other.now) }
+        ensures same { IsTrue result ↔ (self.now ≡ other.now) }
+        ensures test { result ≡ bytes_eq self.now other.now }
     {
-        self.as_bytes() == other.as_bytes()
+        self.as_text() == other.as_text()
     }
 }
 

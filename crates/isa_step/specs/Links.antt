@@ -1,6 +1,6 @@
 -- UG984's link instructions get, put, getd and putd: with n they do not wait, with t they leave the link, with c the
 -- control bit is expected or sent, with e a wrong control bit is raised, and with a takes are held off behind them.
-use Rattle.std.specs.Prelude.{ℕ, ◌/◌, ◌%◌, ◌==◌, ◌&&◌, not, Bool, true, false, Option, Some, None, if◌then◌else◌}
+use Rattle.std.specs.Prelude.{ℕ, ◌%◌, ◌==◌, ◌&&◌, not, Bool, bit_and, true, false, Option, Some, None, if◌then◌else◌}
 use Rattle.axi_link.specs.declared.item.Item.{Item}
 use Rattle.core_regs.specs.declared.registers.Arch.{Arch}
 use Rattle.core_regs.specs.State.{exceptions_on, msr_c, msr_fsl, with_flag, write_of}
@@ -11,21 +11,24 @@ use Rattle.isa_step.specs.declared.acts.Action.TheVariants.{Got, Sent, Seen, Roo
 use Rattle.isa_step.specs.declared.supplying.Given.{Given}
 use Rattle.isa_step.specs.Deeds.{Deed, Want, Gets, Puts, retires, raises}
 
--- the letters of a link instruction
+-- whether a link instruction has a letter: n is 16, c 8, t 4, a 2 and e 1
+unfoldable pub has_letter : ℕ → ℕ → Bool
+has_letter letter flags = not (bit_and flags letter == 0)
+
 abbrev pub is_nonblocking : ℕ → Bool
-is_nonblocking flags = flags / 16 % 2 == 1
+is_nonblocking flags = has_letter 16 flags
 
 abbrev pub has_control : ℕ → Bool
-has_control flags = flags / 8 % 2 == 1
+has_control flags = has_letter 8 flags
 
 abbrev pub is_test : ℕ → Bool
-is_test flags = flags / 4 % 2 == 1
+is_test flags = has_letter 4 flags
 
 abbrev pub is_atomic : ℕ → Bool
-is_atomic flags = flags / 2 % 2 == 1
+is_atomic flags = has_letter 2 flags
 
 abbrev pub has_exception : ℕ → Bool
-has_exception flags = flags % 2 == 1
+has_exception flags = has_letter 1 flags
 
 -- the port: the low four bits of the word, or of rB
 abbrev pub port_of : Given → Bool → ℕ

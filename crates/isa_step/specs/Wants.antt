@@ -107,8 +107,11 @@ wants_instr None word o a m = illegal a word
 wants_instr (Some i) word o a m = wants_kind (kind_of i.op) i word o a m
 
 -- the branch to itself, with which a program ends
+abbrev pub end_word : ℕ
+end_word = 0xB800_0000
+
 abbrev pub is_end : ℕ → Arch → Bool
-is_end word a = (word == 0xB800_0000) && is_none a.prefix && is_none a.slot
+is_end word a = (word == end_word) && is_none a.prefix && is_none a.slot
 
 -- that word done as the branch that it is
 abbrev pub comes_home : Arch → Deed

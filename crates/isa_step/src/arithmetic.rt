@@ -8,7 +8,7 @@ ghost use Rattle.isa_step.specs.Performing.{Makes, NamesGiven, NamesOf};
 ghost use Rattle.alu_units.specs.Units.{sign_extended};
 
 use crate::acts::Done;
-use crate::retiring::{exceptions_on, into_rd, raise, retire, yields};
+use crate::retiring::{into_rd, raise, retire, yields};
 use crate::supplying::Given;
 use alu_units::{DivFault, adder, divide, pcmpeq, pcmpne, sext8, sext16, sra, src, srl};
 use core_regs::{Arch, Msr};
@@ -69,7 +69,7 @@ pub fn divides(g: &Given, a: &mut Arch, signed: bool) -> Done
     let Some(fault) = quotient.fault else {
         return yields(g, a, quotient.value);
     };
-    if exceptions_on(a) {
+    if a.exceptions_on() {
         a.put_flag(Msr::DZO, true);
         return raise(a, &cause_of(fault));
     }

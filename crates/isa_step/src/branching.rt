@@ -10,6 +10,7 @@ use crate::retiring::{into_rd, jump, retire};
 use crate::supplying::Given;
 use core_regs::{Arch, Msr};
 use delay_imm::{advance, branch};
+use mb_word::is_negative;
 use op_table::{Condition, Op, Return};
 use trap_entry::leave;
 
@@ -48,7 +49,7 @@ pub fn breaks_off(g: &Given, a: &mut Arch) -> Done
 pub fn holds(condition: Condition, x: u32) -> bool
     ensures { result ≡ holds condition x }
 {
-    let negative = x >= 0x8000_0000;
+    let negative = is_negative(x);
     match condition {
         Condition::Equal => x == 0,
         Condition::Unequal => x != 0,

@@ -9,7 +9,8 @@ ghost use Rattle.isa_step.specs.Resting.{idle_by, idle_of, idle_want, is_quiet};
 ghost use Rattle.isa_step.specs.Wants.{effect, operands_of, wants, wants_kind};
 
 use crate::acts::{Here, Idle, Operands};
-use crate::linking::{is_nonblocking, port_of};
+use crate::letters::is_nonblocking;
+use crate::linking::port_of;
 use crate::ports::Sees;
 use crate::stepping::{is_atomic_here, is_banned, is_closed, is_end, is_link, met};
 use crate::supplying::{Given, read_operands, supply};

@@ -7,43 +7,14 @@ ghost use Rattle.isa_step.specs.Links.{checked, gets, gets_from, has_control, ha
 ghost use Rattle.isa_step.specs.Performing.{Names, NamesGiven, NamesOf, Performed};
 
 use crate::acts::{Done, Idle, Outcome};
+use crate::letters::{has_control, has_exception, is_atomic, is_nonblocking, is_test};
 use crate::ports::Ports;
-use crate::retiring::{exceptions_on, into_rd, raise, retire};
+use crate::retiring::{into_rd, raise, retire};
 use crate::supplying::Given;
 use axi_link::Item;
 use core_regs::{Arch, Msr, WaitOn};
 use delay_imm::advance;
 use trap_entry::Cause;
-
-pub fn is_nonblocking(flags: u8) -> bool
-    ensures { result ≡ is_nonblocking flags }
-{
-    flags / 16 % 2 == 1
-}
-
-fn has_control(flags: u8) -> bool
-    ensures { result ≡ has_control flags }
-{
-    flags / 8 % 2 == 1
-}
-
-fn is_test(flags: u8) -> bool
-    ensures { result ≡ is_test flags }
-{
-    flags / 4 % 2 == 1
-}
-
-pub fn is_atomic(flags: u8) -> bool
-    ensures { result ≡ is_atomic flags }
-{
-    flags / 2 % 2 == 1
-}
-
-fn has_exception(flags: u8) -> bool
-    ensures { result ≡ has_exception flags }
-{
-    flags % 2 == 1
-}
 
 /// The port of an access.
 pub fn port_of(g: &Given, dynamic: bool) -> u8
@@ -102,7 +73,7 @@ fn receives(g: &Given, a: &mut Arch, port: u8, item: &Item) -> Done
     ensures done { result ≡ (receives g.now (bare a.old) port item.now).done }
     ensures arch { a.new ≡ record (receives g.now (bare a.old) port item.now).arch { regs = a.old.regs } }
 {
-    let raised = !is_expected(g.flags, item) && has_exception(g.flags) && exceptions_on(a);
+    let raised = !is_expected(g.flags, item) && has_exception(g.flags) && a.exceptions_on();
     if raised {
         mark(g.flags, a);
         check(g.flags, item, a);

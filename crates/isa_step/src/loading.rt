@@ -12,24 +12,12 @@ ghost use Rattle.isa_step.specs.Performing.{Makes, Names, NamesGiven, NamesOf, P
 
 use crate::acts::{Act, Done, Outcome, Store};
 use crate::ports::Ports;
-use crate::retiring::{exceptions_on, into_rd, raise, retire, stop, yields};
+use crate::retiring::{into_rd, raise, retire, stop, yields};
 use crate::supplying::Given;
-use byte_mem::Memory;
+use byte_mem::{Memory, bytes_of};
 use core_regs::{Arch, Size, StopCause};
 use delay_imm::advance;
 use trap_entry::Cause;
-
-/// How many bytes an access has.
-fn bytes_of(size: Size) -> u32
-    ensures value { result ≡ bytes_of size }
-    ensures some { 1 ≤ result }
-{
-    match size {
-        Size::Byte => 1,
-        Size::Half => 2,
-        Size::Word => 4,
-    }
-}
 
 /// The address of an access.
 fn address(g: &Given) -> u32
@@ -71,7 +59,7 @@ fn no_data(a: &mut Arch, addr: u32) -> Done
     ensures names { NamesOf result }
     ensures makes { Makes (no_data (bare a.old) addr None) result a.old a.new }
 {
-    if exceptions_on(a) {
+    if a.exceptions_on() {
         raise(a, &Cause::DataBus(addr))
     } else {
         stop(a, StopCause::DataBus(addr))
@@ -123,7 +111,7 @@ pub fn loads<P: Ports>(g: &Given, a: &mut Arch, m: &Memory, p: &mut P, size: Siz
     ensures performs { Performed P.done P.spare P.leaves (reply (bare a.old) (loads g.now (bare a.old) m.now size) (P.shows p.old)) result a.old m.now p.old a.new m.now p.new }
 {
     let addr = address(g);
-    if !is_aligned(size, addr) && exceptions_on(a) {
+    if !is_aligned(size, addr) && a.exceptions_on() {
         return Outcome::Did(unaligned(g, a, size, false));
     }
     loads_at(g, a, m, p, size, lowered(size, addr))
@@ -194,7 +182,7 @@ pub fn stores<P: Ports>(g: &Given, a: &mut Arch, m: &mut Memory, p: &mut P, size
     ensures performs { Performed P.done P.spare P.leaves (reply (bare a.old) (stores g.now (bare a.old) m.old size) (P.shows p.old)) result a.old m.old p.old a.new m.new p.new }
 {
     let addr = address(g);
-    if !is_aligned(size, addr) && exceptions_on(a) {
+    if !is_aligned(size, addr) && a.exceptions_on() {
         return Outcome::Did(unaligned(g, a, size, true));
     }
     stores_at(g, a, m, p, size, lowered(size, addr))

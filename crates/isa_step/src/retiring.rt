@@ -1,13 +1,13 @@
 //! How acts that ask nothing of the outside are put together.
 
 ghost use Rattle.std.specs.Prelude.{◌≡◌, ◌<◌, IfSome, None, false, true};
-ghost use Rattle.core_regs.specs.State.{bare, exceptions_on, write_of};
+ghost use Rattle.core_regs.specs.State.{bare, write_of};
 ghost use Rattle.isa_step.specs.Deeds.{raises, stops, told, yields};
 ghost use Rattle.isa_step.specs.Performing.{Makes, NamesGiven, NamesOf};
 
 use crate::acts::{Act, Done};
 use crate::supplying::Given;
-use core_regs::{Arch, Msr, StopCause, Write};
+use core_regs::{Arch, StopCause, Write};
 use delay_imm::advance;
 use trap_entry::{Cause, trap};
 
@@ -57,13 +57,6 @@ pub fn yields(g: &Given, a: &mut Arch, value: u32) -> Done
 {
     advance(a, false);
     retire(g, into_rd(g, value))
-}
-
-/// Whether a fault is raised.
-pub fn exceptions_on(a: &Arch) -> bool
-    ensures { result ≡ exceptions_on a.now }
-{
-    a.has(Msr::EE) && !a.has(Msr::EIP)
 }
 
 /// The core stops, and all else of it stays.

@@ -1,4 +1,16 @@
-//! The one act that is due.
+//! The one act that is due. The first of nine rules that applies decides it (UG984, Interrupts, Exceptions, and Break):
+//!
+//! 1. A stopped core does nothing.
+//! 2. A pending break or interrupt is taken, where none is held off: by a prefix or a slot, by a link access with `a`
+//!    before or next, by MSR.
+//! 3. A sleeping core does nothing.
+//! 4. A pc that is no multiple of four, or outside the memory, is an instruction bus fault.
+//! 5. At the branch to itself, `END_WORD`, with no prefix and no slot held, the core has ended, where no break and no
+//!    interrupt can come any more; else the word is done as the branch that it is.
+//! 6. A word that means no instruction is illegal, and so is a link access with `n` on a network board.
+//! 7. An instruction in a slot that it doesn't belong into stops the core.
+//! 8. A link access without `n` waits for an item, or for room.
+//! 9. Else the instruction is done.
 
 ghost use Rattle.std.specs.Prelude.{◌≡◌, ◌≤◌, ◌+◌, IfSome, List, ℕ, None, true};
 ghost use Rattle.core_regs.specs.State.{bare};
@@ -11,9 +23,9 @@ ghost use Rattle.isa_step.specs.Wants.{comes_home, is_atomic_here, is_banned, is
 
 use crate::acts::{Act, Done, Here, Hopes, Idle, Operands, Outcome, Step};
 use crate::executing::execute;
-use crate::linking::{is_atomic, is_nonblocking};
+use crate::letters::{is_atomic, is_nonblocking};
 use crate::ports::{Ports, Sees};
-use crate::retiring::{exceptions_on, raise, stop};
+use crate::retiring::{raise, stop};
 use crate::supplying::{read_operands, supply};
 use byte_mem::Memory;
 use core_regs::{Arch, Msr, Size, StopCause, Take};
@@ -23,14 +35,14 @@ use op_table::{Kind, belongs_into_slot, kind_of};
 use trap_entry::{Cause, divert};
 
 /// The word that ends a program, the branch to itself `bri 0`.
-const END: u32 = 0xB800_0000;
+pub const END_WORD: u32 = 0xB800_0000;
 
 /// A fault of the instruction itself: it is raised, or stops the core.
 fn faults(a: &mut Arch, cause: &Cause, why: StopCause) -> Done
     ensures names { NamesOf result }
     ensures makes { Makes (faults (bare a.old) cause.now why None) result a.old a.new }
 {
-    if exceptions_on(a) {
+    if a.exceptions_on() {
         raise(a, cause)
     } else {
         stop(a, why)
@@ -65,12 +77,15 @@ fn do_instr<P: Ports>(
     ensures performs { Performed P.done P.spare P.leaves (reply (bare a.old) (wants_kind (kind_of i.now.op) i.now word o.now (bare a.old) m.old) (P.shows p.old)) result a.old m.old p.old a.new m.new p.new }
 {
     let kind = kind_of(i.op);
+    // rule 6, on a network board
     if is_banned(i, kind, a.network) {
         return Outcome::Did(faults(a, &Cause::Illegal, StopCause::Illegal(word)));
     }
+    // rule 7
     if a.slot.is_some() && !belongs_into_slot(i.op) {
         return Outcome::Did(stop(a, StopCause::Slot(word)));
     }
+    // rules 8 and 9
     let given = supply(i, kind, o, a);
     execute(kind, &given, a, m, p)
 }
@@ -78,7 +93,7 @@ fn do_instr<P: Ports>(
 pub fn is_end(word: u32, a: &Arch) -> bool
     ensures { result ≡ is_end word a.now }
 {
-    word == END && a.prefix.is_none() && a.slot.is_none()
+    word == END_WORD && a.prefix.is_none() && a.slot.is_none()
 }
 
 fn is_masked(a: &Arch) -> bool
@@ -131,15 +146,18 @@ fn do_here<P: Ports>(
     ensures names { Names result }
     ensures performs { Performed P.done P.spare P.leaves (reply (bare a.old) (wants here.now o.now (bare a.old) m.old) (P.shows p.old)) result a.old m.old p.old a.new m.new p.new }
 {
+    // rule 4
     let Some(here) = here else {
         let pc = a.pc;
         return Outcome::Did(faults(a, &Cause::InstrBus, StopCause::InstrBus(pc)));
     };
+    // rule 5
     if is_end(here.word, a) {
         return come_home(a, p);
     }
     match &here.instr {
         Some(i) => do_instr(i, here.word, o, a, m, p),
+        // rule 6
         None => Outcome::Did(faults(a, &Cause::Illegal, StopCause::Illegal(here.word))),
     }
 }
@@ -230,12 +248,15 @@ pub fn act<P: Ports>(
     ensures names { Names result }
     ensures performs { Performed P.done P.spare P.leaves (due_with here.now o.now (bare a.old) m.old (P.shows p.old)) result a.old m.old p.old a.new m.new p.new }
 {
+    // rule 1
     if let Some(cause) = a.stopped {
         return Outcome::Idle(Idle::Stopped(cause));
     }
     match take_due(here, a, p) {
+        // rule 2
         Some(t) => take(t, a, p),
         None => {
+            // rule 3
             if a.asleep {
                 Outcome::Idle(Idle::Asleep)
             } else {

@@ -1,16 +1,14 @@
+//! Items as bytes, the items of a file, and the first fault of one.
 ghost use Rattle.std.specs.Prelude.{◌≡◌, ◌≤◌, length, IfOk};
 ghost use Rattle.link_file.specs.File;
 ghost use Rattle.run_journal.specs.Files;
 
 use axi_link::Item;
+use run_journal::NoMemory;
 use std::alloc::Global;
 
 /// The bytes of an item: its control byte, and those of its word.
 const ITEM_LEN: u32 = 5;
-
-/// There was no memory for the items.
-#[derive(Clone, Copy, Debug, PartialEq, Eq)]
-pub struct NoMemory;
 
 /// The bytes of an item in a file: its control bit as a byte, and its word, the most significant byte first.
 pub fn item_bytes(item: Item) -> [u8; 5]
@@ -41,16 +39,14 @@ pub fn fault_in(bytes: &[u8]) -> Option<u32>
 pub fn read_items(alloc: Global, bytes: &[u8]) -> Result<Vec<Item>, NoMemory>
     ensures { IfOk result (λ v. v.items ≡ File.items_of bytes.now) }
 {
-    let mut items = Vec::with_capacity(alloc, bytes.len() / 5).map_err(|_| NoMemory)?;
+    let mut items = Vec::with_capacity(alloc, bytes.len() / 5)?;
     let mut left = bytes;
     while let [control, b3, b2, b1, b0, rest @ ..] = left {
         let word = u32::from_be_bytes([*b3, *b2, *b1, *b0]);
-        items
-            .push(Item {
-                word,
-                control: *control == 1,
-            })
-            .map_err(|_| NoMemory)?;
+        items.push(Item {
+            word,
+            control: *control == 1,
+        })?;
         left = rest;
     }
     Ok(items)

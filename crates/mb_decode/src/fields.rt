@@ -1,56 +1,119 @@
-ghost use Rattle.mb_decode.specs.Meaning.{NamesRegisters, read};
+//! The fields of words, read by their form and put at their places.
+ghost use Rattle.mb_decode.specs.Meaning.{Fits, NamesRegisters, limited, limits_of, part_of, placed, read};
+ghost use Rattle.mb_decode.specs.declared.fields.Limits.{Limits};
 ghost use Rattle.mb_word.specs.Word.{field};
-ghost use Rattle.std.specs.Prelude.{◌≡◌, ◌^◌, ◌<◌};
+ghost use Rattle.op_table.specs.Forms.{IsSoundField, fields_of, most_bits, unit_of};
+ghost use Rattle.std.specs.Prelude.{◌≡◌, ◌*◌, ◌^◌, ◌<◌, ◌↔◌, IsTrue};
 
 use crate::instruction::Instr;
 use mb_word::field;
-use op_table::{Form, Op};
+use op_table::{Field, Form, Op, Part};
 
-/// A field of five bits that begin at a place of the word.
-fn five_bits(w: u32, first: u8) -> u8
-    requires { first < 28 }
-    ensures { result ≡ field w first 5 }
+/// The value of a field of a word.
+fn value_in(w: u32, at: &Field) -> u32
+    requires { IsSoundField at.now }
+    ensures value { result ≡ field w at.now.first at.now.width }
+    ensures small { result < 2 ^ most_bits at.now.part }
 {
-    field(w, first, 5) as u8
-}
-
-/// The low 16 bits.
-fn low_half(w: u32) -> u16
-    ensures { result ≡ field w 16 16 }
-{
-    field(w, 16, 16) as u16
+    field(w, at.first, at.width)
 }
 
 /// The fields of a word of this form; those that the form lacks are 0.
-#[rattlefmt::skip]
 pub fn read(form: Form, op: Op, w: u32) -> Instr
     ensures fields { result ≡ read form op w }
     ensures registers { NamesRegisters result }
 {
-    let none = Instr { op, rd: 0, ra: 0, rb: 0, imm: 0, flags: 0 };
-    let rd = five_bits(w, 6);
-    let ra = five_bits(w, 11);
-    let rb = five_bits(w, 16);
-    let imm = low_half(w);
-    let port = field(w, 28, 4) as u16;
-    match form {
-        Form::A => Instr { rd, ra, rb, ..none },
-        Form::U => Instr { rd, ra, ..none },
-        Form::B => Instr { rd, ra, imm, ..none },
-        Form::S => Instr { rd, ra, imm: u16::from(five_bits(w, 27)), ..none },
-        Form::R => Instr { rb, ..none },
-        Form::Rl => Instr { rd, rb, ..none },
-        Form::I => Instr { imm, ..none },
-        Form::Il => Instr { rd, imm, ..none },
-        Form::Cr => Instr { ra, rb, ..none },
-        Form::Ci => Instr { ra, imm, ..none },
-        Form::M => Instr { rd, ..none },
-        Form::N => Instr { imm: u16::from(rd), ..none },
-        Form::T => Instr { ra, ..none },
-        Form::E => Instr { rd, imm: field(w, 17, 15) as u16, ..none },
-        Form::G => Instr { rd, imm: port, flags: five_bits(w, 17), ..none },
-        Form::P => Instr { ra, imm: port, flags: 2 * field(w, 17, 4) as u8, ..none },
-        Form::Gd => Instr { rd, rb, flags: five_bits(w, 22), ..none },
-        Form::Pd => Instr { ra, rb, flags: 2 * field(w, 22, 4) as u8, ..none },
+    let mut instr = Instr::bare(op);
+    for field in form.fields() {
+        instr = instr.with_part(field.part, value_in(w, field));
     }
+    instr
+}
+
+/// How many values each part of an instruction can have: that of a field, as many as the field; that of none, 0 alone. The
+/// letters are a multiple of `step`.
+#[derive(Clone, Copy)]
+pub(crate) struct Limits {
+    rd: u32,
+    ra: u32,
+    rb: u32,
+    imm: u32,
+    flags: u32,
+    step: u32,
+}
+
+impl Limits {
+    /// The limits with so many values for a part.
+    fn with_part(self, part: Part, count: u32) -> Limits
+        requires { count < 2 ^ 31 }
+        ensures { result ≡ limited part count self }
+    {
+        match part {
+            Part::Rd => Limits { rd: count, ..self },
+            Part::Ra => Limits { ra: count, ..self },
+            Part::Rb => Limits { rb: count, ..self },
+            Part::Imm => Limits { imm: count, ..self },
+            Part::Letters => Limits {
+                flags: count,
+                ..self
+            },
+            Part::PutLetters => Limits {
+                flags: 2 * count,
+                step: 2,
+                ..self
+            },
+        }
+    }
+
+    /// The limits of a form's parts.
+    fn of(form: Form) -> Limits
+        ensures { result ≡ limits_of (fields_of form) }
+    {
+        let mut limits = Limits {
+            rd: 1,
+            ra: 1,
+            rb: 1,
+            imm: 1,
+            flags: 1,
+            step: 1,
+        };
+        for field in form.fields() {
+            limits = limits.with_part(field.part, 1 << field.width);
+        }
+        limits
+    }
+}
+
+/// Whether a form has places for the fields of an instruction.
+pub(crate) fn fits(form: Form, i: &Instr) -> bool
+    ensures { IsTrue result ↔ Fits form i.now }
+{
+    let limits = Limits::of(form);
+    u32::from(i.rd) < limits.rd
+        && u32::from(i.ra) < limits.ra
+        && u32::from(i.rb) < limits.rb
+        && u32::from(i.imm) < limits.imm
+        && u32::from(i.flags) < limits.flags
+        && u32::from(i.flags) % limits.step == 0
+}
+
+/// A value at the place of a field.
+fn value_at(value: u32, at: &Field) -> u32
+    requires sound { IsSoundField at.now }
+    requires fits { value * unit_of at.now < 2 ^ 32 }
+    ensures { result ≡ value * unit_of at.now }
+{
+    value << (32 - at.first - at.width)
+}
+
+/// The bits of the fields at their places.
+pub(crate) fn placed(form: Form, i: &Instr) -> u32
+    requires { Fits form i.now }
+    ensures { result ≡ placed form i.now }
+{
+    let mut word = 0;
+    for field in form.fields() {
+        word += value_at(i.part(field.part), field);
+    }
+    word
 }

@@ -1,7 +1,8 @@
 -- From what the parts of a run of a board say to what its status says.
 use Rattle.std.proofs.lemmas.Option.{same_Some}
 use Rattle.std.proofs.Common.{◌≡◌, ◌⊎◌, inl, inr, zero, suc, ℕ, ◌≤◌, ◌<◌, List, [], ◌∷◌, ◌++◌, length, map, Option, Some, None, Result, Ok, Err, Bool, true, false, refl, sym, ap, subst, ◌∙◌, arith, slice_get}
-use Rattle.std.specs.Prelude.{⊤, ◌||◌, codes}
+use Rattle.std.specs.Prelude.{⊤, ◌||◌, IfOk, codes, unwrap_or}
+use Rattle.std.specs.Result.{result_ok}
 use Rattle.std.specs.List.{list_any}
 use Rattle.std.specs.Str.{bytes_eq}
 use Rattle.isa_step.specs.Deeds.{View}
@@ -52,6 +53,11 @@ report_is board last how entries code cycles e c n =
 pub outputs_are : (board : BoardFile) (last : World) (entries : List Entry) (journal : Option (List ℕ)) (shelf shelf' : ShelfState) (result : Result ⊤ OutputFault) → entries ≡ last.fabric.journal
     → WroteOutputs shelf shelf' (outputs_of board entries journal) result → WroteOutputs shelf shelf' (outputs_of board last.fabric.journal journal) result
 outputs_are board last entries journal shelf shelf' result e w = let P : List Entry → Type 0 = λ es. WroteOutputs shelf shelf' (outputs_of board es journal) result in subst P e w
+
+-- what holds of a board that was built
+pub built : {A E : Type 0} (P : A → Type 0) (r : Result A E) (a : A) → Some a ≡ result_ok r → IfOk r P → P a
+built P (Ok b) a is h = subst P (sym (ap (λ o. unwrap_or o a) is)) h
+built P (Err e) a is h = cc
 
 -- the files, and then the report
 pub prints_out : (journal : Option (List ℕ)) (board : BoardFile) (last : World) (how : RunEnd) (shelf shelf' : ShelfState) (out out' : SinkState) (status : Status)

@@ -3,3 +3,4 @@ pub mod Runs
 pub mod Raw
 pub mod Board
 pub mod Top
+pub mod Program

@@ -10,13 +10,12 @@ ghost use Rattle.mb_sim.specs.Top.{CountsLoads, CountsWrites};
 use crate::raw::output;
 use crate::runs::status_of;
 use crate::status::Status;
-use board_file::BoardFile;
 use board_load::{Job, Refusal, load_job};
 use board_run::{Board, RunEnd};
 use core_iface::{Core, PlainCore};
 use host_io::{FileName, Shelf, Sink, StoreFault};
 use probe_set::ProbeSet;
-use run_output::{Chunks, CoreEnd, CoreEnds, OutputFault, print_report};
+use run_output::{CoreEnd, CoreEnds, OutputFault, Outputs};
 use std::alloc::Global;
 
 /// The words of `run`.
@@ -32,12 +31,11 @@ pub struct RunWords {
     pub journal: Option<FileName>,
 }
 
-/// A board before its first event, and the buffer for its files.
+/// A board before its first event, and the memory for what its run puts out.
 #[derive(Drop)]
 struct Ready {
-    file: BoardFile,
     board: Board<PlainCore>,
-    chunks: Chunks,
+    outputs: Outputs,
 }
 
 /// How the cores of a board stand.
@@ -112,22 +110,18 @@ fn status_of_refusal(refusal: Refusal) -> Status
 fn make_ready(alloc: Global, job: Job, entries: u32) -> Option<Ready>
     requires new { AreNew job.board.cores (map plain_state job.cores.items) }
     requires buildable { IsBuildable job.board }
-    ensures file { IfSome result (λ r. r.file ≡ job.board) }
+    ensures file { IfSome result (λ r. r.outputs ≡ job.board) }
     ensures start { IfSome result (λ r. Start job.board (map (λ core. (plain_state core).view) job.cores.items) job.inputs.links r.board) }
     ensures room { IfSome result (λ r. r.board.fabric.spare ≡ entries) }
 {
-    let chunks = Chunks::reserve(alloc).ok()?;
     let Job {
         board: file,
         cores,
         inputs,
     } = job;
     let board = Board::build(alloc, &file, cores, inputs, entries as usize).ok()?;
-    Some(Ready {
-        file,
-        board,
-        chunks,
-    })
+    let outputs = Outputs::reserve(alloc, file, entries).ok()?;
+    Some(Ready { board, outputs })
 }
 
 /// Runs a board and puts out what it gives.
@@ -140,8 +134,8 @@ fn play<S: Shelf, O: Sink>(
     probes: &mut ProbeSet,
 ) -> Status
     requires can { CanRun words.now.cycles ready.board }
-    requires count { length ready.board.cores ≡ length ready.file.cores }
-    ensures plays { Plays words.now ready.file ready.board (S.state shelf.old) (S.state shelf.new) (O.state out.old) (O.state out.new) result }
+    requires count { length ready.board.cores ≡ length ready.outputs.cores }
+    ensures plays { Plays words.now ready.outputs ready.board (S.state shelf.old) (S.state shelf.new) (O.state out.old) (O.state out.new) result }
 {
     let mut ready = ready;
     let end = ready.board.run(words.cycles, probes);
@@ -157,16 +151,12 @@ fn put_out<S: Shelf, O: Sink>(
     shelf: &mut S,
     out: &mut O,
 ) -> Status
-    requires count { length ready.old.board.cores ≡ length ready.old.file.cores }
-    ensures puts { PutsOut journal.now ready.old.file ready.old.board end (S.state shelf.old) (S.state shelf.new) (O.state out.old) (O.state out.new) result }
+    requires count { length ready.old.board.cores ≡ length ready.old.outputs.cores }
+    ensures puts { PutsOut journal.now ready.old.outputs ready.old.board end (S.state shelf.old) (S.state shelf.new) (O.state out.old) (O.state out.new) result }
 {
-    let Ready {
-        file,
-        board,
-        chunks,
-    } = ready;
-    match chunks.write_outputs(alloc, shelf, file, board.journal(), journal) {
-        Ok(()) => print(alloc, file, board, end, out),
+    let Ready { board, outputs } = ready;
+    match outputs.write(alloc, shelf, board.journal(), journal) {
+        Ok(()) => print(alloc, outputs, board, end, out),
         Err(fault) => status_of_output(fault),
     }
 }
@@ -184,20 +174,19 @@ fn status_of_output(fault: OutputFault) -> Status
 /// Prints the report of a run that ended so.
 fn print<O: Sink>(
     alloc: Global,
-    file: &BoardFile,
+    outputs: &mut Outputs,
     board: &Board<PlainCore>,
     end: RunEnd,
     out: &mut O,
 ) -> Status
-    requires count { length board.now.cores ≡ length file.now.cores }
-    ensures { Prints file.now board.now end (O.state out.old) (O.state out.new) result }
+    requires count { length board.now.cores ≡ length outputs.old.cores }
+    ensures { Prints outputs.old board.now end (O.state out.old) (O.state out.new) result }
 {
     let status = status_of(end);
     let ends = BoardEnds { board };
-    match print_report(
+    match outputs.print_report(
         alloc,
         out,
-        file,
         &ends,
         board.journal(),
         status.code(),

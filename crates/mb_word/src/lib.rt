@@ -1,11 +1,20 @@
 //! Arithmetic on 32-bit words, as the instructions of UG984 do it: modulo 2^32.
+//!
+//! A word is a `u32`. `add_carry` is the sum of two words and a carry, as a `Sum` of its value and its carry out;
+//! `sign16` extends an immediate; `is_negative` and `less_signed` read words in two's complement; `field` is some bits of
+//! a word, counted as UG984 does, from 0 at the highest.
+//!
+//! ```text
+//! let sum = add_carry(0xFFFF_FFFF, 1, false); // value 0, with a carry
+//! let opcode = field(0x3064_1234, 0, 6); // addik: 0x0C
+//! ```
 #![tactic(auto)]
 
 mod sum;
 mod word;
 
 pub use sum::Sum;
-pub use word::{add_carry, field, less_signed, sign16};
+pub use word::{add_carry, field, is_negative, less_signed, sign16};
 
 #[cfg(test)]
 mod tests {
@@ -32,6 +41,14 @@ mod tests {
             (0x8000_0000, 0xFFFF_FFFF, true),
         ] {
             assert_eq!(rt; less_signed(a, b), less, "at {a} and {b}");
+        }
+        for (a, negative) in [
+            (0u32, false),
+            (0x7FFF_FFFF, false),
+            (0x8000_0000, true),
+            (0xFFFF_FFFF, true),
+        ] {
+            assert_eq!(rt; is_negative(a), negative, "at {a}");
         }
         Ok(())
     }

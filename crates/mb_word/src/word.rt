@@ -1,4 +1,5 @@
-ghost use Rattle.mb_word.specs.Word.{bit_of, field, less_signed, sign_extend_16, sum_of};
+//! Words as numbers: their signs, their sums with a carry, and their fields.
+ghost use Rattle.mb_word.specs.Word.{bit_of, field, is_negative, less_signed, sign_extend_16, sum_of};
 ghost use Rattle.std.specs.Prelude.{◌≡◌, ◌+◌, ◌*◌, ◌^◌, ◌≤◌};
 
 use crate::sum::Sum;
@@ -13,6 +14,14 @@ pub fn sign16(x: u16) -> u32
     } else {
         low
     }
+}
+
+/// Whether a word is negative in two's complement: its highest bit is set.
+#[inline(always)]
+pub fn is_negative(a: u32) -> bool
+    ensures { result ≡ is_negative a }
+{
+    a >= 0x8000_0000
 }
 
 /// The sum of two words and a carry, 0 or 1, modulo 2^32, with its carry out.

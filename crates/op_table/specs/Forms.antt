@@ -1,23 +1,13 @@
 -- The forms of an instruction word: which fields it has, and where; and the bits of a word that a form has no field for.
-use Rattle.std.specs.Prelude.{ℕ, ◌-◌, ◌*◌, ◌^◌, ◌+◌, List, [], ◌∷◌}
+use Rattle.std.specs.Prelude.{ℕ, ◌-◌, ◌*◌, ◌^◌, ◌+◌, ◌≤◌, List, [], ◌∷◌}
+use Rattle.std.specs.List.{AllByRecursion}
+use Rattle.op_table.specs.declared.form.Field.{Field}
+use Rattle.op_table.specs.declared.form.Part.{Part}
+use Rattle.op_table.specs.declared.form.Part.TheVariants.{Rd, Ra, Rb, Imm, Letters, PutLetters}
 use Rattle.op_table.specs.declared.form.Form.{Form}
 use Rattle.op_table.specs.declared.form.Form.TheVariants.{A, U, B, S, R, Rl, I, Il, Cr, Ci, M, N, T, E, G, P, Gd, Pd}
 
--- what a field holds: a register's number, an immediate, or letters of a stream access; those of a put have no e, the lowest
-pub data Part : Type 0 where
-  Rd : Part
-  Ra : Part
-  Rb : Part
-  Imm : Part
-  Letters : Part
-  PutLetters : Part
-
--- a field of a word: what it holds, the first of its bits, bit 0 being the highest, and how many they are
-pub record Field : Type 0 where
-  pub part : Part
-  pub first : ℕ
-  pub width : ℕ
-
+-- a field: what it holds, the first of its bits, bit 0 being the highest, and how many they are
 abbrev pub at : Part → ℕ → ℕ → Field
 at part first width = record { part = part; first = first; width = width }
 
@@ -53,6 +43,21 @@ fields_of G = rd ∷ at Letters 17 5 ∷ at Imm 28 4 ∷ []
 fields_of P = ra ∷ at PutLetters 17 4 ∷ at Imm 28 4 ∷ []
 fields_of Gd = rd ∷ rb ∷ at Letters 22 5 ∷ []
 fields_of Pd = ra ∷ rb ∷ at PutLetters 22 4 ∷ []
+
+-- how many bits a part can have
+abbrev pub most_bits : Part → ℕ
+most_bits Imm = 16
+most_bits PutLetters = 4
+most_bits part = 5
+
+-- a field has some bits, lies within the word, and has no more bits than its part can have
+pub record IsSoundField (f : Field) : Type 0 where
+  pub some : 1 ≤ f.width
+  pub within : f.first + f.width ≤ 32
+  pub small : f.width ≤ most_bits f.part
+
+abbrev pub AreSound : List Field → Type 0
+AreSound fields = AllByRecursion IsSoundField fields
 
 -- what one in the lowest bit of a field counts in the word
 abbrev pub unit_of : Field → ℕ

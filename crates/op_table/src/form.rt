@@ -1,42 +1,68 @@
-/// The forms of an instruction word: which fields it has, and where. Bit 0 is the highest. `rd` is bits 6 to 10, `ra`
-/// 11 to 15, `rb` 16 to 20 and a 16-bit immediate 16 to 31; other fields are told with their form.
+//! The forms of an instruction word (UG984, "MicroBlaze Instruction Set Architecture", "Formats").
+
+/// What a field of an instruction word holds.
+#[derive(Clone, Copy, PartialEq, Eq, Debug)]
+pub enum Part {
+    /// The numbers of the registers rD, rA and rB.
+    Rd,
+    Ra,
+    Rb,
+    /// An immediate; also a stream's port, a shift count, or the number of `mbar`.
+    Imm,
+    /// The letters n, c, t, a and e of a `get`, n the highest.
+    Letters,
+    /// The letters n, c, t and a of a `put`, which has no e, the lowest.
+    PutLetters,
+}
+
+/// A field of an instruction word.
+#[derive(Clone, Copy, PartialEq, Eq, Debug)]
+pub struct Field {
+    /// What it holds.
+    pub part: Part,
+    /// The first of its bits; bit 0 is the highest of the word.
+    pub first: u8,
+    /// How many bits it has.
+    pub width: u8,
+}
+
+/// The forms of an instruction word, by the fields that they have: `Form::fields`.
 #[derive(Clone, Copy, PartialEq, Eq, Debug)]
 pub enum Form {
-    /// `rd`, `ra`, `rb`.
+    /// Three registers.
     A,
-    /// `rd`, `ra`.
+    /// Two registers, rD and rA.
     U,
-    /// `rd`, `ra`, immediate.
+    /// Two registers and an immediate.
     B,
-    /// `rd`, `ra`, and a shift count in bits 27 to 31.
+    /// Two registers and a shift count.
     S,
-    /// `rb`: a branch without a link.
+    /// rB: a branch without a link.
     R,
-    /// `rd`, `rb`: a branch that links.
+    /// rD and rB: a branch that links.
     Rl,
-    /// Immediate: a branch without a link, and `imm`.
+    /// An immediate: a branch without a link, and `imm`.
     I,
-    /// `rd`, immediate: a branch that links.
+    /// rD and an immediate: a branch that links.
     Il,
-    /// `ra`, `rb`: a conditional branch, and the cache instructions.
+    /// rA and rB: a conditional branch, and the cache instructions.
     Cr,
-    /// `ra`, immediate: a conditional branch, and the returns.
+    /// rA and an immediate: a conditional branch, and the returns.
     Ci,
-    /// `rd`: a move from a special register.
+    /// rD: a move from a special register.
     M,
-    /// A number in bits 6 to 10: `mbar`. The mask is that of `M`, but the field names no register, so that it is read as
-    /// an immediate and a form alone tells the fields of its rows.
+    /// A number in the place of rD: `mbar`.
     N,
-    /// `ra`: a move to a special register.
+    /// rA: a move to a special register.
     T,
-    /// `rd`, and a 15-bit immediate in bits 17 to 31: the changes of MSR bits.
+    /// rD and a 15-bit immediate: the changes of MSR bits.
     E,
-    /// `rd`, the flags n c t a e in bits 17 to 21, and a port in bits 28 to 31: `get`.
+    /// rD, letters and a port: `get`.
     G,
-    /// `ra`, the flags n c t a in bits 17 to 20, and a port in bits 28 to 31: `put`.
+    /// rA, letters and a port: `put`.
     P,
-    /// `rd`, `rb`, the flags n c t a e in bits 22 to 26: `getd`.
+    /// rD, rB and letters: `getd`.
     Gd,
-    /// `ra`, `rb`, the flags n c t a in bits 22 to 25: `putd`.
+    /// rA, rB and letters: `putd`.
     Pd,
 }

@@ -20,7 +20,7 @@ mod table;
 mod tests;
 
 pub use entry::Row;
-pub use form::Form;
+pub use form::{Field, Form, Part};
 pub use kinds::{
     Condition, Kind, Latency, LogicKind, MulKind, Return, Second, ShiftKind, Special, TopBit, Width,
 };

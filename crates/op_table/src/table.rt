@@ -1,7 +1,9 @@
-//! The instruction table, and the place where the rows of each opcode begin.
+//! The fields of the forms, the instruction table, and the place where the rows of each opcode begin.
+ghost use Rattle.op_table.specs.Forms.{AreSound, fields_of};
+ghost use Rattle.std.specs.Prelude.{◌≡◌};
 
 use crate::entry::Row;
-use crate::form::Form;
+use crate::form::{Field, Form, Part};
 use crate::kinds::{
     Condition, Kind, Latency, LogicKind, MulKind, Return, Second, ShiftKind, Special, TopBit, Width,
 };
@@ -12,35 +14,91 @@ use core_regs::Size;
 /// How many rows the table has.
 pub const COUNT: usize = 120;
 
-/// The bits of the fields rD, rA, rB and of a 16-bit immediate.
-const RD: u32 = 0x03E0_0000;
+/// A field that holds a part in so many bits from a bit on.
+macro_rules! field {
+    ($part:ident $first:literal $width:literal) => {
+        Field { part: Part::$part, first: $first, width: $width }
+    };
+}
 
-const RA: u32 = 0x001F_0000;
+const RD: Field = field!(Rd 6 5);
 
-const RB: u32 = 0x0000_F800;
+const RA: Field = field!(Ra 11 5);
 
-const IMM: u32 = 0x0000_FFFF;
+const RB: Field = field!(Rb 16 5);
+
+const IMM: Field = field!(Imm 16 16);
+
+const SHIFT_COUNT: Field = field!(Imm 27 5);
+
+const NUMBER: Field = field!(Imm 6 5);
+
+const MSR_BITS: Field = field!(Imm 17 15);
+
+const PORT: Field = field!(Imm 28 4);
+
+const LETTERS: Field = field!(Letters 17 5);
+
+const PUT_LETTERS: Field = field!(PutLetters 17 4);
+
+const LOW_LETTERS: Field = field!(Letters 22 5);
+
+const LOW_PUT_LETTERS: Field = field!(PutLetters 22 4);
+
+/// Hands the fields of a form, from the highest on, to a macro.
+macro_rules! with_fields {
+    (A $then:ident) => { $then!(RD RA RB) };
+    (U $then:ident) => { $then!(RD RA) };
+    (B $then:ident) => { $then!(RD RA IMM) };
+    (S $then:ident) => { $then!(RD RA SHIFT_COUNT) };
+    (R $then:ident) => { $then!(RB) };
+    (Rl $then:ident) => { $then!(RD RB) };
+    (I $then:ident) => { $then!(IMM) };
+    (Il $then:ident) => { $then!(RD IMM) };
+    (Cr $then:ident) => { $then!(RA RB) };
+    (Ci $then:ident) => { $then!(RA IMM) };
+    (M $then:ident) => { $then!(RD) };
+    (N $then:ident) => { $then!(NUMBER) };
+    (T $then:ident) => { $then!(RA) };
+    (E $then:ident) => { $then!(RD MSR_BITS) };
+    (G $then:ident) => { $then!(RD LETTERS PORT) };
+    (P $then:ident) => { $then!(RA PUT_LETTERS PORT) };
+    (Gd $then:ident) => { $then!(RD RB LOW_LETTERS) };
+    (Pd $then:ident) => { $then!(RA RB LOW_PUT_LETTERS) };
+}
+
+/// Fields as a slice.
+macro_rules! slice {
+    ($($field:ident)+) => { &[$($field),+] };
+}
+
+/// The bits of a word but those of fields.
+macro_rules! others {
+    ($($field:ident)+) => { !($(((1 << $field.width) - 1) << (32 - $field.first - $field.width))|+) };
+}
+
+/// The slice of the form that a value is.
+macro_rules! fields_by {
+    ($form:ident $($name:ident)+) => {
+        match $form {
+            $(Form::$name => with_fields!($name slice),)+
+        }
+    };
+}
+
+impl Form {
+    /// The fields of the form, from the highest on. All other bits of a word are fixed by its row.
+    pub fn fields(self) -> &'static [Field]
+        ensures fields { result.now ≡ fields_of self }
+        ensures sound { AreSound result.now }
+    {
+        fields_by!(self A U B S R Rl I Il Cr Ci M N T E G P Gd Pd)
+    }
+}
 
 /// The mask of a form's rows: all bits of a word that the form has no field for.
 macro_rules! mask {
-    (A) => { !(RD | RA | RB) };
-    (U) => { !(RD | RA) };
-    (B) => { !(RD | RA | IMM) };
-    (S) => { !(RD | RA | 0x1F) };
-    (R) => { !RB };
-    (Rl) => { !(RD | RB) };
-    (I) => { !IMM };
-    (Il) => { !(RD | IMM) };
-    (Cr) => { !(RA | RB) };
-    (Ci) => { !(RA | IMM) };
-    (M) => { !RD };
-    (N) => { !RD };
-    (T) => { !RA };
-    (E) => { !(RD | 0x7FFF) };
-    (G) => { !(RD | 0x7C0F) };
-    (P) => { !(RA | 0x780F) };
-    (Gd) => { !(RD | RB | 0x3E0) };
-    (Pd) => { !(RA | RB | 0x3C0) };
+    ($form:ident) => { with_fields!($form others) };
 }
 
 /// A letter of a mnemonic, 0 after the last.

@@ -3,6 +3,7 @@ use Rattle.std.specs.Prelude.{◌≡◌, ℕ, ◌==◌, ◌&&◌, not, Bool, tru
 use Rattle.mb_word.specs.Word.{sign_extend_16}
 use Rattle.mb_decode.specs.declared.instruction.Instr.{Instr}
 use Rattle.mb_decode.specs.Meaning.{NamesRegisters, meaning}
+use Rattle.isa_step.specs.Wants.{end_word}
 use Rattle.isa_step.specs.declared.acts.Late.{Late}
 use Rattle.op_table.specs.declared.kinds.Kind.{Kind}
 use Rattle.op_table.specs.declared.kinds.Kind.TheVariants.{Divide, Cache, MoveFrom, MoveToMsr, SetMsr, ClearMsr, Break, Barrier, Return, Get, Put}
@@ -51,5 +52,5 @@ is_inner _ = true
 -- the word means the instruction, is not the end of a program, and its kind is inner
 pub record IsInner (word : ℕ) (i : Instr) : Type 0 where
   pub meant : meaning word ≡ Some i
-  pub goes : (word == 0xB800_0000) ≡ false
+  pub goes : (word == end_word) ≡ false
   pub kind : is_inner (kind_of i.op) ≡ true

@@ -1,20 +1,17 @@
-// A word with what can be told of its act before its operands are known.
+//! A word with what can be told of its act before its operands are known.
 
 ghost use Rattle.std.specs.Prelude.{◌≡◌, ◌<◌, ◌==◌, if◌then◌else◌, false, true, None, Some, IfSome};
 ghost use Rattle.mb_decode.specs.Meaning.{NamesRegisters, meaning};
 ghost use Rattle.op_table.specs.Table.{kind_of, second_of};
-ghost use Rattle.isa_step.specs.Wants.{belongs_into_slot};
+ghost use Rattle.isa_step.specs.Wants.{belongs_into_slot, end_word};
 ghost use Rattle.prepared_act.specs.Prepared.{IsInner, extended_of, is_inner, is_return, late_register};
 ghost use Rattle.isa_step.specs.Due.{met};
 
 use core_regs::Arch;
-use isa_step::Here;
+use isa_step::{END_WORD, Here};
 use mb_decode::{Instr, decode};
 use mb_word::sign16;
 use op_table::{Kind, Op, Return, Second, belongs_into_slot, kind_of, latency_of, second_of};
-
-/// The branch to itself, with which a program ends.
-const END: u32 = 0xB800_0000;
 
 /// A word, and what of its act can be told before its operands are known: 32 bytes, so that its place in a table is found
 /// by a shift.
@@ -103,9 +100,9 @@ pub fn late_register(i: &Instr) -> u8
 
 /// Whether a word that means an instruction of a kind is no end of a program, and its act inner.
 fn goes_on(word: u32, kind: Kind) -> bool
-    ensures { result ≡ true → ((word == 0xB800_0000) ≡ false) × (is_inner kind ≡ true) }
+    ensures { result ≡ true → ((word == end_word) ≡ false) × (is_inner kind ≡ true) }
 {
-    word != END && is_inner(kind)
+    word != END_WORD && is_inner(kind)
 }
 
 impl Prepared {

@@ -1,4 +1,4 @@
-// Acts that ask nothing of the outside and retire.
+//! Acts that ask nothing of the outside and retire.
 
 ghost use Rattle.std.specs.Prelude.{◌≡◌, ◌<◌, ℕ, List, Some, ◌+◌, ◌*◌, ◌^◌, ◌&&◌, ◌==◌, if◌then◌else◌, not, is_some, true, false, None, IfSome};
 ghost use Rattle.core_regs.specs.State.{bare, reg, with_reg};
@@ -25,7 +25,7 @@ use byte_mem::Memory;
 use core_regs::{Arch, Msr};
 use delay_imm::{advance, branch, hold_prefix, immediate};
 use mb_decode::Instr;
-use mb_word::Sum;
+use mb_word::{Sum, is_negative};
 use op_table::{Condition, Kind, Return, Second, TopBit, Width};
 
 /// 16 bits below those of a prefix.
@@ -103,7 +103,7 @@ fn shifts_by_one(i: &Instr, a: &mut Arch, top: TopBit, x: u32, y: u32)
 fn holds(condition: Condition, x: u32) -> bool
     ensures { result ≡ holds condition x }
 {
-    let negative = x >= 0x8000_0000;
+    let negative = is_negative(x);
     match condition {
         Condition::Equal => x == 0,
         Condition::Unequal => x != 0,

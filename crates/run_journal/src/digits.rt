@@ -1,4 +1,4 @@
-// Numbers as upper-case hexadecimal digits.
+//! Numbers as upper-case hexadecimal digits.
 ghost use Rattle.std.specs.Prelude.{◌≡◌, ◌<◌};
 ghost use Rattle.run_journal.specs.Digits.{hex_digit, hex_of, hex_of_byte};
 

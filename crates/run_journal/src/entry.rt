@@ -1,4 +1,4 @@
-// What happened in a run.
+//! What happened in a run.
 use axi_link::Item;
 use core_regs::{StopCause, Take, WaitOn};
 use std::mem::size_of;

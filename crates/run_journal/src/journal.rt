@@ -1,14 +1,11 @@
-// A list of entries that only grows, and takes no memory after it is made.
+//! A list of entries that only grows, and takes no memory after it is made.
 ghost use Rattle.std.specs.Prelude.{◌≡◌, ◌↔◌, ◌<◌, ◌≤◌, IfOk, IsSome, length, slice_get};
 ghost use Rattle.run_journal.specs.Log.{empty, with_newest};
 
 use crate::entry::Entry;
+use host_io::NoMemory;
 use std::alloc::Global;
 use std::marker::Model;
-
-/// There was no memory for the entries.
-#[derive(Clone, Copy, Debug, PartialEq, Eq)]
-pub struct NoMemory;
 
 /// What happened in a run, in order: a list of entries that only grows.
 ///
@@ -35,7 +32,7 @@ impl Journal {
     pub fn reserve(alloc: Global, n: usize) -> Result<Journal, NoMemory>
         ensures { IfOk result (λ j. j ≡ empty n) }
     {
-        let entries = Vec::with_capacity(alloc, n).map_err(|_| NoMemory)?;
+        let entries = Vec::with_capacity(alloc, n)?;
         Ok(Journal { entries, limit: n })
     }
 

@@ -1,4 +1,4 @@
-// The text of an entry.
+//! The text of an entry.
 ghost use Rattle.std.specs.Prelude.{◌≡◌, ◌+◌, ◌<◌, ◌≤◌, ◌++◌, codes, length};
 ghost use Rattle.run_journal.specs.Digits.{hex_of_byte};
 ghost use Rattle.run_journal.specs.Lines.{access, bit, hex, item_at, item_of, item_words, line_of, number, shown_core, side, stop_words, take_name, value_of, word, words_of};

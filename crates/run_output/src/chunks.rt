@@ -1,14 +1,15 @@
 // Output files, written by chunks through one buffer.
 ghost use Rattle.std.specs.Prelude.{◌≡◌, ◌+◌, ◌≤◌, IfOk, List, ℕ, [], ◌++◌, flat_map, length};
 ghost use Rattle.host_io.specs.Outside.{Appends, ShelfState};
-ghost use Rattle.run_journal.specs.Files.{link_file, uart_file};
 ghost use Rattle.run_output.specs.Stored.{Continues, IsWriting, Wrote};
 ghost use Rattle.run_output.specs.Texts.{journal_text};
+ghost use Rattle.run_output.specs.Threads.{Knows, Lie, file_of, through};
 
-use crate::pieces::{Lines, LinkItems, Pieces, UartBytes};
+use crate::pieces::{Exit, Lines, Pieces};
+use crate::threads::Threads;
 use board_file::BoardFile;
 use host_io::{FileName, Shelf, StoreFault};
-use run_journal::Journal;
+use run_journal::Entry;
 use std::alloc::Global;
 use std::marker::Model;
 
@@ -47,83 +48,99 @@ impl Chunks {
         Ok(Chunks { bytes })
     }
 
-    /// Writes the file of a link: the items that the host got from it.
-    pub fn write_link<S: Shelf>(
-        &mut self,
-        alloc: Global,
-        shelf: &mut S,
-        name: &FileName,
-        journal: &Journal,
-        link: u16,
-    ) -> Result<(), StoreFault>
-        ensures { Wrote (S.state shelf.old) (S.state shelf.new) name.now (link_file link journal.now.entries) result }
-    {
-        self.write(
-            alloc,
-            shelf,
-            name,
-            journal,
-            &LinkItems {
-                link: link as usize,
-            },
-        )
-    }
-
-    /// Writes the file of a UART: the bytes that left it.
-    pub fn write_uart<S: Shelf>(
-        &mut self,
-        alloc: Global,
-        shelf: &mut S,
-        name: &FileName,
-        journal: &Journal,
-        uart: u16,
-    ) -> Result<(), StoreFault>
-        ensures { Wrote (S.state shelf.old) (S.state shelf.new) name.now (uart_file uart journal.now.entries) result }
-    {
-        self.write(
-            alloc,
-            shelf,
-            name,
-            journal,
-            &UartBytes {
-                uart: uart as usize,
-            },
-        )
-    }
-
-    /// Writes the text of a journal: a line for each entry, with the names of the board.
+    /// Writes the text of a journal: a line for each entry, with the names of a board.
     #[tactic(auto, unfolding(crate::specs::Texts::journal_text))]
-    pub fn write_journal<S: Shelf>(
+    pub fn write_text<S: Shelf>(
         &mut self,
         alloc: Global,
         shelf: &mut S,
         name: &FileName,
-        journal: &Journal,
+        entries: &[Entry],
         board: &BoardFile,
     ) -> Result<(), StoreFault>
-        ensures { Wrote (S.state shelf.old) (S.state shelf.new) name.now (journal_text board.now journal.now.entries) result }
+        ensures { Wrote (S.state shelf.old) (S.state shelf.new) name.now (journal_text board.now entries.now) result }
     {
-        self.write(alloc, shelf, name, journal, &Lines { board })
+        self.start(alloc, shelf, name)?;
+        self.add_all(alloc, shelf, name, entries, &Lines { board })?;
+        self.finish(alloc, shelf, name)
     }
 
-    /// Writes a file: what each entry adds to it.
-    pub(crate) fn write<S: Shelf, P: Pieces>(
+    /// Writes the file of an exit: what left there. Entries that are not threaded are looked through one by one.
+    pub fn write_exit<S: Shelf>(
         &mut self,
         alloc: Global,
         shelf: &mut S,
         name: &FileName,
-        journal: &Journal,
-        pieces: &P,
+        entries: &[Entry],
+        threads: &Threads,
+        exit: Exit,
     ) -> Result<(), StoreFault>
-        ensures { Wrote (S.state shelf.old) (S.state shelf.new) name.now (flat_map (P.bytes pieces.now) journal.now.entries) result }
+        requires lie { Lie threads.now entries.now }
+        requires knows { Knows threads.now exit }
+        ensures { Wrote (S.state shelf.old) (S.state shelf.new) name.now (file_of exit entries.now) result }
+    {
+        let (early, late) = entries.split_at(entries.len() - threads.len());
+        self.start(alloc, shelf, name)?;
+        self.add_all(alloc, shelf, name, early, &exit)?;
+        self.add_thread(alloc, shelf, name, late, threads, exit)?;
+        self.finish(alloc, shelf, name)
+    }
+
+    /// Begins a file.
+    fn start<S: Shelf>(
+        &mut self,
+        alloc: Global,
+        shelf: &mut S,
+        name: &FileName,
+    ) -> Result<(), StoreFault>
+        ensures { Continues (S.state shelf.old) (S.state shelf.new) name.now self.new [] result }
     {
         self.bytes.clear();
-        shelf.start(alloc, name.as_text())?;
-        for k in 0..journal.len() {
-            let entry = journal.entry(k).unwrap();
-            self.add(alloc, shelf, name, pieces.piece(&entry).as_bytes())?;
+        shelf.start(alloc, name.as_text())
+    }
+
+    /// Adds what each of these entries adds to a file.
+    fn add_all<S: Shelf, P: Pieces>(
+        &mut self,
+        alloc: Global,
+        shelf: &mut S,
+        name: &FileName,
+        entries: &[Entry],
+        pieces: &P,
+    ) -> Result<(), StoreFault>
+        ensures { (before : ShelfState) (done : List ℕ) → IsWriting before (S.state shelf.old) name.now self.old done
+            → Continues before (S.state shelf.new) name.now self.new (done ++ flat_map (P.bytes pieces.now) entries.now) result }
+    {
+        for k in 0..entries.len() {
+            let entry = &entries[k];
+            self.add(alloc, shelf, name, pieces.piece(entry).as_bytes())?;
         }
-        self.finish(alloc, shelf, name)
+        Ok(())
+    }
+
+    /// Adds what left through an exit: the entries of its thread.
+    fn add_thread<S: Shelf>(
+        &mut self,
+        alloc: Global,
+        shelf: &mut S,
+        name: &FileName,
+        entries: &[Entry],
+        threads: &Threads,
+        exit: Exit,
+    ) -> Result<(), StoreFault>
+        requires threads { threads.now ≡ through threads.now entries.now }
+        requires knows { Knows threads.now exit }
+        ensures { (before : ShelfState) (done : List ℕ) → IsWriting before (S.state shelf.old) name.now self.old done
+            → Continues before (S.state shelf.new) name.now self.new (done ++ file_of exit entries.now) result }
+    {
+        let mut left = threads.first(exit);
+        while left > 0 {
+            let place = entries.len() - left as usize;
+            let entry = &entries[place];
+            self.add(alloc, shelf, name, exit.piece(entry).as_bytes())?;
+            left = threads.next(left);
+        }
+        Ok(())
     }
 
     /// Adds bytes of a file that is being written. The buffer is sent where they find no room in it.

@@ -2,18 +2,18 @@
 #![tactic(auto)]
 
 mod chunks;
-mod counts;
+mod files;
 mod laws;
 mod outputs;
 mod pieces;
 mod print;
 mod report;
+mod tally;
 #[cfg(test)]
 mod tests;
+mod threads;
 
-pub use chunks::{Chunks, NoMemory};
-pub use counts::{LinkCounts, bytes_out, link_counts};
+pub use chunks::NoMemory;
 pub use laws::writings_are_told;
-pub use outputs::OutputFault;
-pub use print::{print_cores, print_links, print_report, print_status, print_uarts};
-pub use report::{CoreEnd, CoreEnds, core_line, link_line, status_line, uart_line};
+pub use outputs::{OutputFault, Outputs};
+pub use report::{CoreEnd, CoreEnds};

@@ -1,14 +1,44 @@
-// All files of a run, in order.
-ghost use Rattle.std.specs.Prelude.{◌≡◌, [], ◌∷◌, flat_map};
-ghost use Rattle.std.specs.List.{enumerate_from};
-ghost use Rattle.run_output.specs.Outputs.{WroteOutputs, output_of_journal, output_of_link, output_of_uart, outputs_of};
+// What a run of a board puts out, and the memory for it.
+ghost use Rattle.std.specs.Prelude.{◌≡◌, IfOk, length};
+ghost use Rattle.host_io.specs.Outside.{Adds};
+ghost use Rattle.run_output.specs.Outputs.{WroteOutputs, outputs_of};
+ghost use Rattle.run_output.specs.Report.{report_text};
 
-use crate::Chunks;
-use crate::pieces::{Lines, LinkItems, Pieces, UartBytes};
-use board_file::{BoardFile, End, LinkRow, UartRow};
-use host_io::{FileName, Shelf, StoreFault};
+use crate::chunks::{Chunks, NoMemory};
+use crate::print::print_report;
+use crate::report::CoreEnds;
+use crate::tally::Tally;
+use crate::threads::Threads;
+use board_file::BoardFile;
+use host_io::{FileName, Shelf, Sink, StoreFault};
 use run_journal::Journal;
 use std::alloc::Global;
+use std::marker::Model;
+
+/// What a run of a board puts out: its files and its report. It means the board.
+///
+/// All memory for them is taken by `reserve`, so before the run: what the other calls answer for want of memory is the
+/// shelf's or the sink's own. They go over the journal a fixed number of times, whatever the number of files and links.
+#[derive(Drop)]
+pub struct Outputs {
+    board: BoardFile,
+    chunks: Chunks,
+    threads: Threads,
+    tally: Tally,
+}
+
+impl Model for Outputs {
+    ghost use Rattle.std.specs.Prelude.{◌≡◌, length};
+    ghost use Rattle.board_file.specs.declared.board.BoardFile.{BoardFile};
+    ghost use Rattle.run_output.specs.Tally.{Covers};
+
+    ghost Value = { BoardFile };
+
+    ghost view = { λ o. o.board };
+
+    ghost invariant = { λ o. (length o.threads.links ≡ length o.board.links) × (length o.threads.uarts ≡ length o.board.uarts)
+        × Covers o.tally o.board.links × (length o.tally.left ≡ length o.board.uarts) };
+}
 
 /// Why not all files of a run were written.
 #[derive(Debug, Drop)]
@@ -19,110 +49,72 @@ pub enum OutputFault {
     NoMemory,
 }
 
-impl Chunks {
+impl Outputs {
+    /// Takes the memory for the outputs of a board whose journal has room for so many entries. It fails only for want of
+    /// memory.
+    pub fn reserve(alloc: Global, board: BoardFile, entries: u32) -> Result<Outputs, NoMemory>
+        ensures { IfOk result (λ o. o ≡ board) }
+    {
+        let (links, uarts) = (board.links.len(), board.uarts.len());
+        let chunks = Chunks::reserve(alloc)?;
+        let threads = Threads::reserve(alloc, links, uarts, entries)?;
+        let tally = Tally::reserve(alloc, board.links.as_slice(), uarts)?;
+        Ok(Outputs {
+            board,
+            chunks,
+            threads,
+            tally,
+        })
+    }
+
+    /// The board.
+    pub fn board(&self) -> &BoardFile
+        ensures { result.now ≡ self.now }
+    {
+        &self.board
+    }
+
     /// Writes the files of a run: those of the links and then of the UARTs in board order, and then the journal, where
     /// a file is named for it. It stops at the first that is refused.
-    #[tactic(auto, unfolding(crate::specs::Outputs::outputs_of))]
-    pub fn write_outputs<S: Shelf>(
+    pub fn write<S: Shelf>(
         &mut self,
         alloc: Global,
         shelf: &mut S,
-        board: &BoardFile,
         journal: &Journal,
         journal_file: &Option<FileName>,
     ) -> Result<(), OutputFault>
-        ensures { WroteOutputs (S.state shelf.old) (S.state shelf.new) (outputs_of board.now journal.now.entries journal_file.now) result }
+        ensures outputs { WroteOutputs (S.state shelf.old) (S.state shelf.new) (outputs_of self.old journal.now.entries journal_file.now) result }
+        ensures board { self.new ≡ self.old }
     {
-        self.write_links(alloc, shelf, board.links.as_slice(), journal)?;
-        self.write_uarts(alloc, shelf, board.uarts.as_slice(), journal)?;
-        self.write_text(alloc, shelf, board, journal, journal_file)
+        let entries = journal.entries();
+        self.threads.lay(entries);
+        let Outputs {
+            board,
+            chunks,
+            threads,
+            ..
+        } = self;
+        chunks.write_outputs(alloc, shelf, board, entries, threads, journal_file)
     }
 
-    /// Writes the files of the links that lead to one.
-    fn write_links<S: Shelf>(
+    /// Writes the report of a run: its status and cycles, its cores as they stand, and what its entries say of each link
+    /// and UART.
+    pub fn print_report<O: Sink, E: CoreEnds>(
         &mut self,
         alloc: Global,
-        shelf: &mut S,
-        rows: &[LinkRow],
+        out: &mut O,
+        ends: &E,
         journal: &Journal,
-    ) -> Result<(), OutputFault>
-        ensures { WroteOutputs (S.state shelf.old) (S.state shelf.new) (flat_map (output_of_link journal.now.entries) (enumerate_from 0 rows.now)) result }
+        code: u8,
+        cycles: u64,
+    ) -> Result<(), StoreFault>
+        requires { E.count ends.now ≡ length self.old.cores }
+        ensures report { Adds (O.state out.old) (O.state out.new) (report_text self.old (E.ends ends.now) journal.now.entries code cycles) result }
+        ensures board { self.new ≡ self.old }
     {
-        for (k, row) in rows.iter().enumerate() {
-            self.write_link_of(alloc, shelf, k, row, journal)?;
-        }
-        Ok(())
-    }
-
-    /// Writes the file of the link of a number, where it leads to one.
-    fn write_link_of<S: Shelf>(
-        &mut self,
-        alloc: Global,
-        shelf: &mut S,
-        link: usize,
-        row: &LinkRow,
-        journal: &Journal,
-    ) -> Result<(), OutputFault>
-        ensures { WroteOutputs (S.state shelf.old) (S.state shelf.new) (output_of_link journal.now.entries (link, row.now)) result }
-    {
-        match &row.to {
-            End::File(name) => self.write_output(alloc, shelf, name, journal, &LinkItems { link }),
-            End::Port { .. } => Ok(()),
-        }
-    }
-
-    /// Writes the files of the UARTs.
-    fn write_uarts<S: Shelf>(
-        &mut self,
-        alloc: Global,
-        shelf: &mut S,
-        rows: &[UartRow],
-        journal: &Journal,
-    ) -> Result<(), OutputFault>
-        ensures { WroteOutputs (S.state shelf.old) (S.state shelf.new) (flat_map (output_of_uart journal.now.entries) (enumerate_from 0 rows.now)) result }
-    {
-        for (k, row) in rows.iter().enumerate() {
-            self.write_output(alloc, shelf, &row.output, journal, &UartBytes { uart: k })?;
-        }
-        Ok(())
-    }
-
-    /// Writes the journal, where a file is named for it.
-    #[tactic(auto, unfolding(crate::specs::Texts::journal_text))]
-    fn write_text<S: Shelf>(
-        &mut self,
-        alloc: Global,
-        shelf: &mut S,
-        board: &BoardFile,
-        journal: &Journal,
-        name: &Option<FileName>,
-    ) -> Result<(), OutputFault>
-        ensures { WroteOutputs (S.state shelf.old) (S.state shelf.new) (output_of_journal board.now journal.now.entries name.now) result }
-    {
-        match name {
-            Some(name) => self.write_output(alloc, shelf, name, journal, &Lines { board }),
-            None => Ok(()),
-        }
-    }
-
-    /// Writes a file, and names it where it is refused.
-    fn write_output<S: Shelf, P: Pieces>(
-        &mut self,
-        alloc: Global,
-        shelf: &mut S,
-        name: &FileName,
-        journal: &Journal,
-        pieces: &P,
-    ) -> Result<(), OutputFault>
-        ensures { WroteOutputs (S.state shelf.old) (S.state shelf.new)
-            (record { name = name.now; bytes = flat_map (P.bytes pieces.now) journal.now.entries } ∷ []) result }
-    {
-        match self.write(alloc, shelf, name, journal, pieces) {
-            Ok(()) => Ok(()),
-            Err(StoreFault::Failed) => Err(OutputFault::Failed {
-                file: name.copied(),
-            }),
-            Err(StoreFault::NoMemory) => Err(OutputFault::NoMemory),
-        }
+        let entries = journal.entries();
+        self.tally.count_all(entries);
+        let Outputs { board, tally, .. } = self;
+        print_report(alloc, out, board, ends, entries, tally, code, cycles)
     }
 }

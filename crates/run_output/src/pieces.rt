@@ -1,13 +1,13 @@
 // What each entry of a journal adds to a file.
 ghost use Rattle.std.specs.Prelude.{◌≡◌, List, ℕ};
-ghost use Rattle.axi_link.specs.declared.item.Item.{Item};
 ghost use Rattle.run_journal.specs.declared.entry.Entry.{Entry};
-ghost use Rattle.run_journal.specs.Files.{bytes_got, bytes_left, item_bytes};
+ghost use Rattle.run_journal.specs.Files.{bytes_got, bytes_left};
+ghost use Rattle.run_output.specs.Threads.{bytes_at};
 ghost use Rattle.run_output.specs.Texts.{core_name, journal_line, link_name, part_name, shown, uart_name};
 
-use axi_link::Item;
 use board_file::BoardFile;
 use host_io::{LongText, Name};
+use link_file::item_bytes;
 use run_journal::{Entry, What, line_of};
 
 /// What a file takes from each entry of a journal.
@@ -20,50 +20,46 @@ pub trait Pieces {
         ensures { result ≡ bytes self.now e.now };
 }
 
-/// The items that the host got from the link of this number.
+/// Where something leaves the board for a file: the link or the UART of a number.
 #[derive(Clone, Copy)]
-pub struct LinkItems {
-    pub link: usize,
+pub enum Exit {
+    Link(usize),
+    Uart(usize),
 }
 
-impl Pieces for LinkItems {
-    ghost bytes = { λ p e. bytes_got p.link e.what };
+impl Pieces for Exit {
+    ghost bytes = { bytes_at };
 
     fn piece(&self, e: &Entry) -> LongText {
-        match e.what {
-            What::HostGot { link, item } if link as usize == self.link => item_bytes(item),
-            _ => LongText::new(),
+        match *self {
+            Exit::Link(link) => item_got(link, &e.what),
+            Exit::Uart(uart) => byte_left(uart, &e.what),
         }
     }
 }
 
-/// An item in a file: its control bit as a byte, and its word, the most significant byte first.
-fn item_bytes(item: Item) -> LongText
-    ensures { result ≡ item_bytes item }
+/// The item that the host got from a link, as it stands in a file.
+fn item_got(link: usize, what: &What) -> LongText
+    ensures { result ≡ bytes_got link what.now }
 {
     let mut bytes = LongText::new();
-    bytes.push(if item.control { &[1] } else { &[0] });
-    bytes.push(&item.word.to_be_bytes());
+    match *what {
+        What::HostGot { link: of, item } if of as usize == link => bytes.push(&item_bytes(item)),
+        _ => {}
+    }
     bytes
 }
 
-/// The bytes that left the UART of this number.
-#[derive(Clone, Copy)]
-pub struct UartBytes {
-    pub uart: usize,
-}
-
-impl Pieces for UartBytes {
-    ghost bytes = { λ p e. bytes_left p.uart e.what };
-
-    fn piece(&self, e: &Entry) -> LongText {
-        match e.what {
-            What::Left { uart, byte } if uart as usize == self.uart => LongText::from_bytes(&[
-                byte,
-            ]),
-            _ => LongText::new(),
-        }
+/// The byte that left a UART.
+fn byte_left(uart: usize, what: &What) -> LongText
+    ensures { result ≡ bytes_left uart what.now }
+{
+    let mut bytes = LongText::new();
+    match *what {
+        What::Left { uart: of, byte } if of as usize == uart => bytes.push(&[byte]),
+        _ => {}
     }
+    bytes
 }
 
 /// The line of each entry, with the names of a board.

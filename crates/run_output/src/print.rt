@@ -1,13 +1,15 @@
 // Printing a report, line by line.
-ghost use Rattle.std.specs.Prelude.{◌≡◌, length};
+ghost use Rattle.std.specs.Prelude.{◌≡◌, flat_map, length};
+ghost use Rattle.std.specs.List.{enumerate_from};
 ghost use Rattle.host_io.specs.Outside.{Adds};
-ghost use Rattle.run_output.specs.Report.{core_lines, link_lines, report_text, status_line, uart_lines};
+ghost use Rattle.run_output.specs.Report.{core_lines, report_text, status_line};
+ghost use Rattle.run_output.specs.Tally.{Covers, Fit, IsTally, counted_link_line, counted_uart_line};
 
-use crate::counts::{bytes_out, link_counts};
 use crate::report::{CoreEnds, core_line, link_line, status_line, uart_line};
+use crate::tally::Tally;
 use board_file::{BoardFile, CoreRow, LinkRow, UartRow};
 use host_io::{Sink, StoreFault};
-use run_journal::Journal;
+use run_journal::Entry;
 use std::alloc::Global;
 
 /// Writes the report of a run: its status and cycles, its cores as they stand, and what its entries say of each link and
@@ -18,21 +20,26 @@ pub fn print_report<O: Sink, E: CoreEnds>(
     out: &mut O,
     board: &BoardFile,
     ends: &E,
-    journal: &Journal,
+    entries: &[Entry],
+    tally: &Tally,
     code: u8,
     cycles: u64,
 ) -> Result<(), StoreFault>
-    requires { E.count ends.now ≡ length board.now.cores }
-    ensures { Adds (O.state out.old) (O.state out.new) (report_text board.now (E.ends ends.now) journal.now.entries code cycles) result }
+    requires count { E.count ends.now ≡ length board.now.cores }
+    requires tells { IsTally tally.now entries.now }
+    requires covers { Covers tally.now board.now.links }
+    requires fit { Fit tally.now board.now.links }
+    requires uarts { length tally.now.left ≡ length board.now.uarts }
+    ensures { Adds (O.state out.old) (O.state out.new) (report_text board.now (E.ends ends.now) entries.now code cycles) result }
 {
-    print_status(alloc, out, code, cycles, journal.len() as u64)?;
+    print_status(alloc, out, code, cycles, entries.len() as u64)?;
     print_cores(alloc, out, board.cores.as_slice(), ends)?;
-    print_links(alloc, out, board.links.as_slice(), journal)?;
-    print_uarts(alloc, out, board.uarts.as_slice(), journal)
+    print_links(alloc, out, board.links.as_slice(), tally)?;
+    print_uarts(alloc, out, board.uarts.as_slice(), tally)
 }
 
 /// Writes the line of the run.
-pub fn print_status<O: Sink>(
+fn print_status<O: Sink>(
     alloc: Global,
     out: &mut O,
     code: u8,
@@ -45,7 +52,7 @@ pub fn print_status<O: Sink>(
 }
 
 /// Writes a line for each core.
-pub fn print_cores<O: Sink, E: CoreEnds>(
+fn print_cores<O: Sink, E: CoreEnds>(
     alloc: Global,
     out: &mut O,
     rows: &[CoreRow],
@@ -64,16 +71,17 @@ pub fn print_cores<O: Sink, E: CoreEnds>(
 }
 
 /// Writes a line for each link.
-pub fn print_links<O: Sink>(
+fn print_links<O: Sink>(
     alloc: Global,
     out: &mut O,
     rows: &[LinkRow],
-    journal: &Journal,
+    tally: &Tally,
 ) -> Result<(), StoreFault>
-    ensures { Adds (O.state out.old) (O.state out.new) (link_lines journal.now.entries rows.now) result }
+    requires fit { Fit tally.now rows.now }
+    ensures { Adds (O.state out.old) (O.state out.new) (flat_map (counted_link_line tally.now) (enumerate_from 0 rows.now)) result }
 {
     for (k, row) in rows.iter().enumerate() {
-        let counts = link_counts(journal, k, row);
+        let counts = tally.link(k, row);
         let line = link_line(&row.name, counts.sent, counts.taken);
         out.write_all(alloc, line.as_bytes())?;
     }
@@ -81,16 +89,16 @@ pub fn print_links<O: Sink>(
 }
 
 /// Writes a line for each UART.
-pub fn print_uarts<O: Sink>(
+fn print_uarts<O: Sink>(
     alloc: Global,
     out: &mut O,
     rows: &[UartRow],
-    journal: &Journal,
+    tally: &Tally,
 ) -> Result<(), StoreFault>
-    ensures { Adds (O.state out.old) (O.state out.new) (uart_lines journal.now.entries rows.now) result }
+    ensures { Adds (O.state out.old) (O.state out.new) (flat_map (counted_uart_line tally.now) (enumerate_from 0 rows.now)) result }
 {
     for (k, row) in rows.iter().enumerate() {
-        let line = uart_line(&row.name, bytes_out(journal, k));
+        let line = uart_line(&row.name, tally.uart(k));
         out.write_all(alloc, line.as_bytes())?;
     }
     Ok(())

@@ -1,12 +1,10 @@
 // The lines of reports, and files over a shelf in memory.
-use crate::{
-    Chunks, CoreEnd, CoreEnds, OutputFault, core_line, link_line, print_report, status_line,
-    uart_line,
-};
+use crate::report::{core_line, link_line, status_line, uart_line};
+use crate::{CoreEnd, CoreEnds, OutputFault, Outputs};
 use axi_link::Item;
-use board_file::{BoardFile, read_board};
+use board_file::read_board;
 use core_regs::{StopCause, WaitOn};
-use host_io::{Failing, FileName, MemShelf, MemSink, Name, StoreFault};
+use host_io::{Failing, FileName, MemShelf, MemSink, Name};
 use isa_step::Idle;
 use run_journal::{Entry, Journal, NO_CORE, What};
 use std::alloc::Global;
@@ -125,8 +123,10 @@ fn journal_of(alloc: Global, entries: &[Entry]) -> Result<Journal, Fail> {
     Ok(journal)
 }
 
-fn relay(alloc: Global) -> Result<BoardFile, Fail> {
-    Ok(read_board(alloc, RELAY).map_err(|_| "board")?)
+/// The outputs of a board, with room for so many entries.
+fn outputs_of(alloc: Global, board: &[u8], room: u32) -> Result<Outputs, Fail> {
+    let board = read_board(alloc, board).map_err(|_| "board")?;
+    Ok(Outputs::reserve(alloc, board, room).map_err(|_| "memory")?)
 }
 
 /// Cores that all stand alike.
@@ -153,67 +153,68 @@ impl CoreEnds for Alike {
 #[test]
 fn a_report_tells_each_part(rt: HostRuntime) -> Result<(), Fail> {
     let alloc = rt.alloc();
-    let board = relay(alloc)?;
+    let mut outputs = outputs_of(alloc, RELAY, 7)?;
     let journal = journal_of(alloc, &ENTRIES)?;
     let end = CoreEnd {
         idle: Some(Idle::Ended),
         pc: 8,
         acts: 2,
     };
-    if board.cores.len() != 2 {
+    if outputs.board().cores.len() != 2 {
         return Err("cores".into());
     }
     let mut out = MemSink::new(Vec::new(alloc), Vec::new(alloc));
     let ends = Alike { cores: 2, end };
-    let printed = print_report(alloc, &mut out, &board, &ends, &journal, 0, 4);
+    let printed = outputs.print_report(alloc, &mut out, &ends, &journal, 0, 4);
     assert_eq!(rt; printed, Ok(()));
     assert_eq!(rt; out.written(), REPORT);
     Ok(())
 }
 
-/// A file that a run writes.
-#[derive(Clone, Copy)]
-enum Kind {
-    Link(u16),
-    Uart(u16),
-    Journal,
-}
-
-/// Writes a file of the run above.
-fn write(
+/// Writes the files of a board by outputs with room for so many entries, and tells the file that is refused.
+fn refused(
     alloc: Global,
-    chunks: &mut Chunks,
+    board: &[u8],
+    room: u32,
     shelf: &mut MemShelf,
-    name: &str,
-    kind: Kind,
-) -> Result<Result<(), StoreFault>, Fail> {
-    let name = FileName::from_text(name).ok_or("file")?;
-    let journal = journal_of(alloc, &ENTRIES)?;
-    Ok(match kind {
-        Kind::Link(link) => chunks.write_link(alloc, shelf, &name, &journal, link),
-        Kind::Uart(uart) => chunks.write_uart(alloc, shelf, &name, &journal, uart),
-        Kind::Journal => chunks.write_journal(alloc, shelf, &name, &journal, &relay(alloc)?),
-    })
+    entries: &[Entry],
+) -> Result<Option<FileName>, Fail> {
+    let text = FileName::from_text("text");
+    let journal = journal_of(alloc, entries)?;
+    let mut outputs = outputs_of(alloc, board, room)?;
+    match outputs.write(alloc, shelf, &journal, &text) {
+        Ok(()) => Ok(None),
+        Err(OutputFault::Failed { file }) => Ok(Some(file)),
+        Err(OutputFault::NoMemory) => Err("memory".into()),
+    }
 }
 
+/// A file that is refused.
+fn name_of(file: &Option<FileName>) -> &str {
+    match file {
+        Some(file) => file.as_text(),
+        None => "",
+    }
+}
+
+/// The files of the relay, written by outputs with room for so many entries.
+fn relay_files(alloc: Global, room: u32) -> Result<MemShelf, Fail> {
+    let mut shelf = MemShelf::new(Vec::new(alloc), Vec::new(alloc));
+    match refused(alloc, RELAY, room, &mut shelf, &ENTRIES)? {
+        Some(_) => Err("refused".into()),
+        None => Ok(shelf),
+    }
+}
+
+/// Where the threads have no room for all entries, the files are the same.
 #[test]
 fn files_hold_what_a_run_sent(rt: HostRuntime) -> Result<(), Fail> {
-    let alloc = rt.alloc();
-    let mut chunks = Chunks::reserve(alloc).map_err(|_| "memory")?;
-    let mut shelf = MemShelf::new(Vec::new(alloc), Vec::new(alloc));
-    let rows: [(&str, Kind, &[u8]); 4] = [
-        ("none", Kind::Link(0), b""),
-        ("out", Kind::Link(1), &[0, 0, 0, 0, 7]),
-        ("left", Kind::Uart(0), b"O"),
-        ("text", Kind::Journal, JOURNAL),
-    ];
-    for (name, kind, content) in rows {
-        assert_eq!(rt;
-            write(alloc, &mut chunks, &mut shelf, name, kind)?,
-            Ok(()),
-            "{name}"
-        );
-        assert_eq!(rt; shelf.content(name), Some(content), "{name}");
+    let all = relay_files(rt.alloc(), 7)?;
+    let some = relay_files(rt.alloc(), 3)?;
+    let rows: [(&str, &[u8]); 3] = [("out", &[0, 0, 0, 0, 7]), ("left", b"O"), ("text", JOURNAL)];
+    for (name, content) in rows {
+        assert_eq!(rt; all.content(name), Some(content), "{name}");
+        assert_eq!(rt; some.content(name), Some(content), "{name}");
     }
     Ok(())
 }
@@ -221,51 +222,33 @@ fn files_hold_what_a_run_sent(rt: HostRuntime) -> Result<(), Fail> {
 #[test]
 fn a_file_that_is_refused_is_named(rt: HostRuntime) -> Result<(), Fail> {
     let alloc = rt.alloc();
-    let (board, journal) = (relay(alloc)?, journal_of(alloc, &ENTRIES)?);
-    let mut chunks = Chunks::reserve(alloc).map_err(|_| "memory")?;
     // The append of the third file fails after three bytes.
     let failing = Vec::from_slice(alloc, &[Failing { call: 5, moved: 3 }])?;
     let mut shelf = MemShelf::new(Vec::new(alloc), failing);
-    let text = FileName::from_text("text");
-    match chunks.write_outputs(alloc, &mut shelf, &board, &journal, &text) {
-        Err(OutputFault::Failed { file }) => assert_eq!(rt; file.as_text(), "text"),
-        _ => return Err("another answer".into()),
+    let file = refused(alloc, RELAY, 7, &mut shelf, &ENTRIES)?;
+    assert_eq!(rt; name_of(&file), "text");
+    let rows: [(&str, &[u8]); 3] = [("out", &[0, 0, 0, 0, 7]), ("left", b"O"), ("text", b"0 b")];
+    for (name, content) in rows {
+        assert_eq!(rt; shelf.content(name), Some(content), "{name}");
     }
-    assert_eq!(rt; shelf.content("out"), Some([0, 0, 0, 0, 7].as_slice()));
-    assert_eq!(rt; shelf.content("left"), Some(b"O".as_slice()));
-    assert_eq!(rt; shelf.content("text"), Some(b"0 b".as_slice()));
     Ok(())
 }
 
+/// A core with two links to files.
+const FORK: &[u8] = b"version = 1
+core.a = { image = 'a.elf', pipeline = 'plain' }
+link.x = { depth = 1, from = 'a', from_port = 0, to_file = 'none' }
+link.y = { depth = 1, from = 'a', from_port = 1, to_file = 'out' }
+";
+
 #[test]
-fn a_long_file_goes_by_chunks(rt: HostRuntime) -> Result<(), Fail> {
+fn a_file_without_bytes_is_begun_by_one_call(rt: HostRuntime) -> Result<(), Fail> {
     let alloc = rt.alloc();
-    let item = Item {
-        word: 0x0102_0304,
-        control: true,
-    };
-    let what = What::HostGot { link: 1, item };
-    let entry = Entry { what, ..ENTRIES[5] };
-    let journal = journal_of(alloc, &Vec::from_elem(alloc, entry, 14_000)?)?;
-    let mut chunks = Chunks::reserve(alloc).map_err(|_| "memory")?;
-    // The third call is the append of what is behind the first 65,536 bytes.
-    let failing = Vec::from_slice(alloc, &[Failing { call: 2, moved: 0 }])?;
+    // The second call is the start of the second file.
+    let failing = Vec::from_slice(alloc, &[Failing { call: 1, moved: 0 }])?;
     let mut shelf = MemShelf::new(Vec::new(alloc), failing);
-    let name = FileName::from_text("out").ok_or("file")?;
-    let failed = Err(StoreFault::Failed);
-    assert_eq!(rt;
-        chunks.write_link(alloc, &mut shelf, &name, &journal, 1),
-        failed
-    );
-    let first = shelf.content("out").ok_or("content")?;
-    assert_eq!(rt; first.len(), 65_536);
-    assert_eq!(rt; &first[65_534..], [4, 1].as_slice());
-    assert_eq!(rt;
-        chunks.write_link(alloc, &mut shelf, &name, &journal, 1),
-        Ok(())
-    );
-    let whole = shelf.content("out").ok_or("content")?;
-    assert_eq!(rt; whole.len(), 70_000);
-    assert_eq!(rt; &whole[65_534..65_541], [4, 1, 1, 2, 3, 4, 1].as_slice());
+    let file = refused(alloc, FORK, 7, &mut shelf, &ENTRIES)?;
+    assert_eq!(rt; name_of(&file), "out");
+    assert_eq!(rt; shelf.content("none"), Some(b"".as_slice()));
     Ok(())
 }

@@ -1,5 +1,4 @@
-use Rattle.std.proofs.Common.{◌≡◌, true, false, arith}
-use Rattle.std.proofs.lemmas.Bool.{le-leb, lt-leb}
+use Rattle.std.proofs.Common.{◌≡◌, ◌∙◌, true, false, sym, arith}
 use Rattle.op_table.specs.declared.kinds.ShiftKind.TheVariants.{Left, Right, Arith}
 use Rattle.alu_units.proofs.StagesLemmas.{moved_is}
 use Rattle.mb_word.specs.Word.{is_negative}
@@ -11,12 +10,12 @@ returns-in-Left c = rw c.in-Left.is (moved_is Left c.args.a c.args.step (omega a
 pub returns-in-Right : goal.returns-in-Right
 returns-in-Right c = rw c.in-Right.is (moved_is Right c.args.a c.args.step (omega arith))
 
-pub returns-then-a-ge2147483648 : goal.returns-then-a-ge2147483648
-returns-then-a-ge2147483648 c =
-    let negative : is_negative c.args.a ≡ true = le-leb _ _ (omega arith) in
+pub returns-then-is_negative : goal.returns-then-is_negative
+returns-then-is_negative c =
+    let negative : is_negative c.args.a ≡ true = sym c.is_negative.ensures ∙ c.if-is_negative.true in
     rw c.in-Arith.is (rw negative at (moved_is Arith c.args.a c.args.step (omega arith)))
 
-pub returns-else-a-ge2147483648 : goal.returns-else-a-ge2147483648
-returns-else-a-ge2147483648 c =
-    let positive : is_negative c.args.a ≡ false = lt-leb _ _ (omega arith) in
+pub returns-else-is_negative : goal.returns-else-is_negative
+returns-else-is_negative c =
+    let positive : is_negative c.args.a ≡ false = sym c.is_negative.ensures ∙ c.if-is_negative.false in
     rw c.in-Arith.is (rw positive at (moved_is Arith c.args.a c.args.step (omega arith)))

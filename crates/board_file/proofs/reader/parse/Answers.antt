@@ -14,4 +14,4 @@ returns-else-is_memory-clause-err c =
     let none = c.in-Err.ensures.refused other t.1.0 in
     let some = t.1.1 in
     grind arith in
-    rw c.from_bytes.ensures (not_toml no_toml)
+    rw (c.from_bytes.ensures, c.code.ensures) (not_toml no_toml)

@@ -1,19 +1,28 @@
-use Rattle.std.proofs.Common.{sym, ◌∙◌}
+use Rattle.std.proofs.Common.{◌≡◌, ℕ, List, Result, Ok, Err, IfErr, subst, sym, ◌∙◌}
+use Rattle.std.specs.Result.{IsErr, IsErrAnd}
 use Rattle.toml.specs.View.{table_view}
-use Rattle.board_file.specs.Board.{no_memory, least_fault}
+use Rattle.board_file.specs.Board.{IsRefusal, no_memory, least_fault}
+use Rattle.board_file.specs.declared.board.BoardFile.{BoardFile}
+use Rattle.board_file.specs.declared.fault.BoardFault.{BoardFault}
+use Rattle.board_file.specs.declared.fault.BoardFault.TheVariants.{NoMemory}
 use Rattle.board_file.proofs.Least.{least_is_least}
 use Rattle.board_file.proofs.WholeBoard.{is_read}
 use Rattle.board_file.proofs.reader.read_board.Goals as goal
 
-pub returns-in-Err-clause-err : goal.returns-in-Err-clause-err
-returns-in-Err-clause-err c = no_memory
+no_memory_refuses : (file : List ℕ) (r : Result BoardFile BoardFault) → IsErr r → IsErrAnd r (λ fault. fault ≡ NoMemory) → IfErr r (IsRefusal file)
+no_memory_refuses file (Ok board) is and = tt
+no_memory_refuses file (Err fault) is and = subst (IsRefusal file) (sym and) no_memory
+
+pub returns-in_err-fault-clause-err : goal.returns-in_err-fault-clause-err
+returns-in_err-fault-clause-err c = no_memory_refuses c.args.file.now _ c.from_residual-in_err-fault.ensures.0 c.from_residual-in_err-fault.ensures.1
 
 pub returns-in-Some-clause-err : goal.returns-in-Some-clause-err
-returns-in-Some-clause-err c = least_fault (table_view c.in_ok-root.root) c.in-Some.field-0 c.in_ok-root.ensures.ok (least_is_least _ c.in-Some.field-0 (sym c.in-Ok.ensures ∙ c.in-Some.is))
+returns-in-Some-clause-err c =
+    rw c.refusal.ensures (least_fault (table_view c.in_ok-root.root) c.in-Some.fault c.in_ok-root.ensures.ok (least_is_least _ c.in-Some.fault (sym c.in_ok-fault.ensures ∙ c.in-Some.is)))
 
-pub returns-in-Ok-make_board-clause-ok : goal.returns-in-Ok-make_board-clause-ok
-returns-in-Ok-make_board-clause-ok c =
-    is_read c.args.file.now (table_view c.in_ok-root.root) c.in-Ok-make_board.board c.in_ok-root.ensures.ok (sym c.in-Ok.ensures ∙ c.in-None.is) c.in-Ok-make_board.ensures.board c.in-Ok-make_board.ensures.ascends
+pub returns-in_err-board-clause-err : goal.returns-in_err-board-clause-err
+returns-in_err-board-clause-err c = no_memory_refuses c.args.file.now _ c.from_residual-in_err-board.ensures.0 c.from_residual-in_err-board.ensures.1
 
-pub returns-clause-err : goal.returns-clause-err
-returns-clause-err c = no_memory
+pub returns-clause-ok : goal.returns-clause-ok
+returns-clause-ok c =
+    is_read c.args.file.now (table_view c.in_ok-root.root) c.in_ok-board.board c.in_ok-root.ensures.ok (sym c.in_ok-fault.ensures ∙ c.in_default.is) c.in_ok-board.ensures.board c.in_ok-board.ensures.ascends

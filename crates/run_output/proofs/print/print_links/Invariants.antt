@@ -1,9 +1,9 @@
 use Rattle.std.proofs.Common.{flat_map, take, Ok}
 use Rattle.std.specs.List.{enumerate_from}
 use Rattle.host_io.specs.Outside.{Adds}
-use Rattle.run_output.specs.Report.{line_of_link}
+use Rattle.run_output.specs.Tally.{counted_link_line}
 use Rattle.run_output.proofs.print.print_links.Given as goal
 
 abbrev pub invariant-loop-k : goal.invariant-loop-k
 invariant-loop-k g l =
-    Adds (g.O.Sink.state l.fn.out) (g.O.Sink.state l.out) (flat_map (line_of_link l.journal.entries) (take l.k (enumerate_from 0 l.rows))) (Ok tt)
+    Adds (g.O.Sink.state l.fn.out) (g.O.Sink.state l.out) (flat_map (counted_link_line l.tally) (take l.k (enumerate_from 0 l.rows))) (Ok tt)

@@ -8,8 +8,8 @@ returns-then-not-has_bytes c = record {
   ok = λ earlier keeps none. keeps_same earlier c.args.header.now (get nat_cmp c.args.self.now.ends) (sym c.has_bytes.ensures ∙ c.if-not-has_bytes.true) keeps;
 }
 
-pub returns-in-Ok : goal.returns-in-Ok
-returns-in-Ok c = record {
+pub returns : goal.returns
+returns c = record {
   ok = λ earlier keeps none. keeps_inserted earlier c.args.header.now c.args.self.now.ends c.insert.new.self _ _ (sym c.has_bytes.ensures ∙ c.if-not-has_bytes.false) none
-      c.start.ensures c.end.ensures c.in-Ok.ensures.updates keeps;
+      c.start.ensures c.end.ensures c.in_ok-insert.ensures.updates keeps;
 }

@@ -1,0 +1,4 @@
+pub mod Adding
+pub mod Munches
+pub mod Numerals
+pub mod Texts

@@ -1,0 +1,90 @@
+ghost use Rattle.std.specs.Prelude.{◌≡◌, ◌≤◌, List, length, slice_get};
+ghost use Rattle.mb_lex.specs.Lines.{code_of};
+ghost use Rattle.mb_lex.specs.declared.token.Token.{Token};
+
+use arrayvec::ArrayVec;
+use std::marker::Model;
+
+/// What a token is.
+#[derive(Clone, Copy, Default, PartialEq, Eq, Debug)]
+pub enum TokenKind {
+    /// A name: a mnemonic, a directive, a register or a label.
+    Word,
+    /// A decimal or hexadecimal number, with its value.
+    Number(i64),
+    /// A text with its quotes, and with its escapes as they are written.
+    Text,
+    #[default]
+    Comma,
+    Colon,
+}
+
+/// A token: the bytes of its line from one place up to, but without, another, counted from 0.
+#[derive(Clone, Copy, Default, PartialEq, Eq, Debug)]
+pub struct Token {
+    pub kind: TokenKind,
+    pub from: u32,
+    pub to: u32,
+}
+
+/// Why a line has no list of tokens.
+#[derive(Clone, Copy, PartialEq, Eq, Debug)]
+pub enum LexRule {
+    /// 1109: what begins as a number or a text is none.
+    BadLiteral,
+    /// 1110: a byte outside the syntax.
+    BadCharacter,
+    /// 1112: a 41st token.
+    TooManyTokens,
+}
+
+impl LexRule {
+    /// The number of the fault.
+    pub fn code(self) -> u16
+        ensures { result ≡ code_of self }
+    {
+        match self {
+            LexRule::BadLiteral => 1109,
+            LexRule::BadCharacter => 1110,
+            LexRule::TooManyTokens => 1112,
+        }
+    }
+}
+
+/// The first fault of a line: its number, and the column of its first byte, counted from 1.
+#[derive(Clone, Copy, PartialEq, Eq, Debug)]
+pub struct LexFault {
+    pub code: u16,
+    pub column: u32,
+}
+
+/// The tokens of a line in order, at most 40.
+#[derive(Debug, Drop)]
+pub struct Tokens {
+    pub(crate) items: ArrayVec<Token, 40>,
+}
+
+impl Model for Tokens {
+    ghost Value = { List Token };
+
+    ghost view = { λ t. t.items.items };
+
+    ghost invariant = { λ t. length t.items.items ≤ 40 };
+}
+
+impl Tokens {
+    /// How many there are.
+    pub fn len(&self) -> usize
+        ensures count { result ≡ length self.now }
+        ensures few { result ≤ 40 }
+    {
+        self.items.len()
+    }
+
+    /// The token at a place, counted from 0; None past the last.
+    pub fn get(&self, k: usize) -> Option<Token>
+        ensures { result ≡ slice_get self.now k }
+    {
+        self.items.get(k).copied()
+    }
+}
