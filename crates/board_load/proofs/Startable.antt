@@ -8,9 +8,10 @@ use Rattle.board_file.specs.declared.board.BoardFile.{BoardFile}
 use Rattle.board_file.specs.declared.board.CoreRow.{CoreRow}
 use Rattle.board_file.specs.declared.board.Pipeline.{Pipeline}
 use Rattle.board_file.specs.declared.board.Pipeline.TheVariants.{Plain, Three, Five, Eight}
-use Rattle.board_run.specs.Boards.{AreNew, IsBuildable, IsNew, depth_of}
+use Rattle.board_run.specs.Boards.{AreNew, IsBuildable, IsNew, pipe_of}
 use Rattle.board_sound.proofs.Soundness.{read_is_sound}
 use Rattle.board_sound.specs.Sound.{IsSound}
+use Rattle.timing_law.specs.Past.{fresh as fresh_past}
 use Rattle.core_iface.specs.Cores.{CoreState}
 use Rattle.core_iface.specs.Plain.{plain_state}
 use Rattle.core_iface.specs.declared.plain.PlainCore.{PlainCore}
@@ -109,8 +110,7 @@ new_core row core fresh plain =
       ticks = ap (λ (s : CoreState). s.ticks) fresh;
       slack = omega arith;
       flights = refl;
-      settled = λ r. let done = core.settled r in omega (arith, done);
-      depth = sym (ap depth_of plain);
+      past = ap (λ (s : CoreState). s.past) fresh ∙ sym (ap (λ p. fresh_past (pipe_of p)) plain);
     }
 
 new_at : (cores : List PlainCore) (k : ℕ) (row : CoreRow) (s : CoreState) → All IsFreshCore cores → row.pipeline ≡ Plain

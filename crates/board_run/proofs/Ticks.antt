@@ -15,7 +15,7 @@ use Rattle.run_journal.specs.declared.entry.What.{What}
 use Rattle.run_journal.specs.declared.entry.What.TheVariants.{Wait}
 use Rattle.core_iface.specs.declared.Tick.{Tick}
 use Rattle.core_iface.specs.declared.Tick.TheVariants.{Acted, Filling, Waiting, Sleeping, Ended, Stopped}
-use Rattle.core_iface.specs.Cores.{CoreState}
+use Rattle.core_iface.specs.Cores.{CoreState, is_held}
 use Rattle.core_iface.specs.Ticks.{AloneOf, Ticks, TicksAlone, TickOf, is_view_quiet}
 use Rattle.prepared_act.specs.Retiring.{is_offered}
 use Rattle.board_machine.proofs.Staying.{hoped}
@@ -36,145 +36,181 @@ leaves_act done spare leaves fabric core act None p q does h = ap fabric h
 leaves_act done spare leaves fabric core act (Some a) p q does h = does a h.left
 
 -- the board machine's tick, with what the answer enters
-tick_of : {P : Type 0} (done : P → List Action) (spare : P → ℕ) (leaves : P → Action → P → Type 0) (fabric : P → Fabric) (core : ℕ) (d : Due) (quiet : Bool) (answer : Tick) (old : CoreState) (p : P) (new : CoreState) (q : P) → ((a : Action) → leaves p a q → fabric q ≡ entered core old.acts (entry_of_action a) (fabric p)) → TickOf done spare leaves d quiet answer old p new q → TickMay core d (core_of old) (fabric p) (core_of new) (answered core old.acts answer (fabric q))
-tick_of done spare leaves fabric core (Does deed) quiet (Acted a) old p new q does h = inl (record {
+tick_of : {P : Type 0} (done : P → List Action) (spare : P → ℕ) (leaves : P → Action → P → Type 0) (fabric : P → Fabric) (core : ℕ) (d : Due) (held quiet : Bool) (answer : Tick) (old : CoreState) (p : P) (new : CoreState) (q : P) → ((a : Action) → leaves p a q → fabric q ≡ entered core old.acts (entry_of_action a) (fabric p)) → TickOf done spare leaves d held quiet answer old p new q → TickMay core d (core_of old) (fabric p) (core_of new) (answered core old.acts answer (fabric q))
+tick_of done spare leaves fabric core (Does deed) false quiet (Acted a) old p new q does h = inl (record {
   slack = h.1.below;
   state = ap core_of h.1.core;
   fabric = ap (λ a. entered_some core old.acts (entry_of_act a) (fabric q)) h.0 ∙ ap (entered_some core old.acts (entry_of_act deed.done.act)) (leaves_act done spare leaves fabric core old.acts deed.action p q does h.1.ports);
 })
-tick_of done spare leaves fabric core (Does deed) quiet Filling old p new q does h = inr (record { slack = h.less; state = ap core_of h.core; fabric = ap fabric h.ports })
-tick_of done spare leaves fabric core (Does deed) quiet (Waiting on) old p new q does h = absurd h
-tick_of done spare leaves fabric core (Does deed) quiet Sleeping old p new q does h = absurd h
-tick_of done spare leaves fabric core (Does deed) quiet Ended old p new q does h = absurd h
-tick_of done spare leaves fabric core (Does deed) quiet (Stopped why) old p new q does h = absurd h
-tick_of done spare leaves fabric core (Waits port full) quiet (Acted a) old p new q does h = absurd h
-tick_of done spare leaves fabric core (Waits port full) quiet Filling old p new q does h = inr (record { slack = h.less; state = ap core_of h.core; fabric = ap fabric h.ports })
-tick_of done spare leaves fabric core (Waits port full) quiet (Waiting on) old p new q does h = inl (record {
-  state = ap core_of h.2.core;
-  fabric = ap (λ on. waited core old.acts on (fabric q)) h.0 ∙ ap (λ q. waited core old.acts (record { port = port; full = full }) (fabric q)) h.2.ports;
+tick_of done spare leaves fabric core (Does deed) true quiet (Acted a) old p new q does h = absurd h
+tick_of done spare leaves fabric core (Does deed) true quiet Filling old p new q does h = inr (record { slack = h.less; state = ap core_of h.core; fabric = ap fabric h.ports })
+tick_of done spare leaves fabric core (Does deed) false quiet Filling old p new q does h = absurd h
+tick_of done spare leaves fabric core (Does deed) true quiet (Waiting on) old p new q does h = absurd h
+tick_of done spare leaves fabric core (Does deed) false quiet (Waiting on) old p new q does h = absurd h
+tick_of done spare leaves fabric core (Does deed) true quiet Sleeping old p new q does h = absurd h
+tick_of done spare leaves fabric core (Does deed) false quiet Sleeping old p new q does h = absurd h
+tick_of done spare leaves fabric core (Does deed) true quiet Ended old p new q does h = absurd h
+tick_of done spare leaves fabric core (Does deed) false quiet Ended old p new q does h = absurd h
+tick_of done spare leaves fabric core (Does deed) true quiet (Stopped why) old p new q does h = absurd h
+tick_of done spare leaves fabric core (Does deed) false quiet (Stopped why) old p new q does h = absurd h
+tick_of done spare leaves fabric core (Waits port full) true quiet (Acted a) old p new q does h = absurd h
+tick_of done spare leaves fabric core (Waits port full) false quiet (Acted a) old p new q does h = absurd h
+tick_of done spare leaves fabric core (Waits port full) true quiet Filling old p new q does h = inr (record { slack = h.less; state = ap core_of h.core; fabric = ap fabric h.ports })
+tick_of done spare leaves fabric core (Waits port full) false quiet Filling old p new q does h = absurd h
+tick_of done spare leaves fabric core (Waits port full) false quiet (Waiting on) old p new q does h = inl (record {
+  state = ap core_of h.1.core;
+  fabric = ap (λ on. waited core old.acts on (fabric q)) h.0 ∙ ap (λ q. waited core old.acts (record { port = port; full = full }) (fabric q)) h.1.ports;
 })
-tick_of done spare leaves fabric core (Waits port full) quiet Sleeping old p new q does h = absurd h
-tick_of done spare leaves fabric core (Waits port full) quiet Ended old p new q does h = absurd h
-tick_of done spare leaves fabric core (Waits port full) quiet (Stopped why) old p new q does h = absurd h
-tick_of done spare leaves fabric core Sleeps true (Acted a) old p new q does h = absurd h
-tick_of done spare leaves fabric core Sleeps false (Acted a) old p new q does h = absurd h
-tick_of done spare leaves fabric core Sleeps true Filling old p new q does h = absurd h
-tick_of done spare leaves fabric core Sleeps false Filling old p new q does h = absurd h
-tick_of done spare leaves fabric core Sleeps true (Waiting on) old p new q does h = absurd h
-tick_of done spare leaves fabric core Sleeps false (Waiting on) old p new q does h = absurd h
-tick_of done spare leaves fabric core Sleeps true Sleeping old p new q does h = absurd h
-tick_of done spare leaves fabric core Sleeps false Sleeping old p new q does h = record { state = ap core_of h.core; fabric = ap fabric h.ports }
-tick_of done spare leaves fabric core Sleeps true Ended old p new q does h = record { state = ap core_of h.core; fabric = ap fabric h.ports }
-tick_of done spare leaves fabric core Sleeps false Ended old p new q does h = absurd h
-tick_of done spare leaves fabric core Sleeps true (Stopped why) old p new q does h = absurd h
-tick_of done spare leaves fabric core Sleeps false (Stopped why) old p new q does h = absurd h
-tick_of done spare leaves fabric core Ends quiet (Acted a) old p new q does h = absurd h
-tick_of done spare leaves fabric core Ends quiet Filling old p new q does h = absurd h
-tick_of done spare leaves fabric core Ends quiet (Waiting on) old p new q does h = absurd h
-tick_of done spare leaves fabric core Ends quiet Sleeping old p new q does h = absurd h
-tick_of done spare leaves fabric core Ends quiet Ended old p new q does h = record { state = ap core_of h.core; fabric = ap fabric h.ports }
-tick_of done spare leaves fabric core Ends quiet (Stopped why) old p new q does h = absurd h
-tick_of done spare leaves fabric core (Stops cause) quiet (Acted a) old p new q does h = absurd h
-tick_of done spare leaves fabric core (Stops cause) quiet Filling old p new q does h = absurd h
-tick_of done spare leaves fabric core (Stops cause) quiet (Waiting on) old p new q does h = absurd h
-tick_of done spare leaves fabric core (Stops cause) quiet Sleeping old p new q does h = absurd h
-tick_of done spare leaves fabric core (Stops cause) quiet Ended old p new q does h = absurd h
-tick_of done spare leaves fabric core (Stops cause) quiet (Stopped why) old p new q does h = record { state = ap core_of h.1.core; fabric = ap fabric h.1.ports }
+tick_of done spare leaves fabric core (Waits port full) true quiet (Waiting on) old p new q does h = absurd h
+tick_of done spare leaves fabric core (Waits port full) true quiet Sleeping old p new q does h = absurd h
+tick_of done spare leaves fabric core (Waits port full) false quiet Sleeping old p new q does h = absurd h
+tick_of done spare leaves fabric core (Waits port full) true quiet Ended old p new q does h = absurd h
+tick_of done spare leaves fabric core (Waits port full) false quiet Ended old p new q does h = absurd h
+tick_of done spare leaves fabric core (Waits port full) true quiet (Stopped why) old p new q does h = absurd h
+tick_of done spare leaves fabric core (Waits port full) false quiet (Stopped why) old p new q does h = absurd h
+tick_of done spare leaves fabric core Sleeps held true (Acted a) old p new q does h = absurd h
+tick_of done spare leaves fabric core Sleeps held false (Acted a) old p new q does h = absurd h
+tick_of done spare leaves fabric core Sleeps held true Filling old p new q does h = absurd h
+tick_of done spare leaves fabric core Sleeps held false Filling old p new q does h = absurd h
+tick_of done spare leaves fabric core Sleeps held true (Waiting on) old p new q does h = absurd h
+tick_of done spare leaves fabric core Sleeps held false (Waiting on) old p new q does h = absurd h
+tick_of done spare leaves fabric core Sleeps held true Sleeping old p new q does h = absurd h
+tick_of done spare leaves fabric core Sleeps held false Sleeping old p new q does h = record { state = ap core_of h.core; fabric = ap fabric h.ports }
+tick_of done spare leaves fabric core Sleeps held true Ended old p new q does h = record { state = ap core_of h.core; fabric = ap fabric h.ports }
+tick_of done spare leaves fabric core Sleeps held false Ended old p new q does h = absurd h
+tick_of done spare leaves fabric core Sleeps held true (Stopped why) old p new q does h = absurd h
+tick_of done spare leaves fabric core Sleeps held false (Stopped why) old p new q does h = absurd h
+tick_of done spare leaves fabric core Ends held quiet (Acted a) old p new q does h = absurd h
+tick_of done spare leaves fabric core Ends held quiet Filling old p new q does h = absurd h
+tick_of done spare leaves fabric core Ends held quiet (Waiting on) old p new q does h = absurd h
+tick_of done spare leaves fabric core Ends held quiet Sleeping old p new q does h = absurd h
+tick_of done spare leaves fabric core Ends held quiet Ended old p new q does h = record { state = ap core_of h.core; fabric = ap fabric h.ports }
+tick_of done spare leaves fabric core Ends held quiet (Stopped why) old p new q does h = absurd h
+tick_of done spare leaves fabric core (Stops cause) held quiet (Acted a) old p new q does h = absurd h
+tick_of done spare leaves fabric core (Stops cause) held quiet Filling old p new q does h = absurd h
+tick_of done spare leaves fabric core (Stops cause) held quiet (Waiting on) old p new q does h = absurd h
+tick_of done spare leaves fabric core (Stops cause) held quiet Sleeping old p new q does h = absurd h
+tick_of done spare leaves fabric core (Stops cause) held quiet Ended old p new q does h = absurd h
+tick_of done spare leaves fabric core (Stops cause) held quiet (Stopped why) old p new q does h = record { state = ap core_of h.1.core; fabric = ap fabric h.1.ports }
 
 pub tick_may : {P : Type 0} {done : P → List Action} {spare : P → ℕ} {leaves : P → Action → P → Type 0} {shown : Shown} {answer : Tick} {old new : CoreState} {p q : P} (fabric : P → Fabric) (core : ℕ) → ((a : Action) → leaves p a q → fabric q ≡ entered core old.acts (entry_of_action a) (fabric p)) → Ticks done spare leaves shown answer old p new q → TickMay core (due old.view shown) (core_of old) (fabric p) (core_of new) (answered core old.acts answer (fabric q))
-tick_may {done = done} {spare = spare} {leaves = leaves} {shown = shown} {answer = answer} {old = old} {new = new} {p = p} {q = q} fabric core does h = tick_of done spare leaves fabric core (due old.view shown) (is_view_quiet old.view shown) answer old p new q does h.does
+tick_may {done = done} {spare = spare} {leaves = leaves} {shown = shown} {answer = answer} {old = old} {new = new} {p = p} {q = q} fabric core does h = tick_of done spare leaves fabric core (due old.view shown) (is_held old shown) (is_view_quiet old.view shown) answer old p new q does h.does
 
 -- a tick makes one action at the ports at most
 moves_once : {P : Type 0} (done : P → List Action) (spare : P → ℕ) (leaves : P → Action → P → Type 0) (o : Option Action) (p q : P) → Moves done spare leaves p o q → spare p ≤ spare q + 1
 moves_once done spare leaves None p q h = omega (arith, ap spare h)
 moves_once done spare leaves (Some a) p q h = omega (arith, h.spared)
 
-once_of : {P : Type 0} (done : P → List Action) (spare : P → ℕ) (leaves : P → Action → P → Type 0) (d : Due) (quiet : Bool) (answer : Tick) (old : CoreState) (p : P) (new : CoreState) (q : P) → TickOf done spare leaves d quiet answer old p new q → spare p ≤ spare q + 1
-once_of done spare leaves (Does deed) quiet (Acted a) old p new q h = moves_once done spare leaves deed.action p q h.1.ports
-once_of done spare leaves (Does deed) quiet Filling old p new q h = omega (arith, ap spare h.ports)
-once_of done spare leaves (Does deed) quiet (Waiting on) old p new q h = absurd h
-once_of done spare leaves (Does deed) quiet Sleeping old p new q h = absurd h
-once_of done spare leaves (Does deed) quiet Ended old p new q h = absurd h
-once_of done spare leaves (Does deed) quiet (Stopped why) old p new q h = absurd h
-once_of done spare leaves (Waits port full) quiet (Acted a) old p new q h = absurd h
-once_of done spare leaves (Waits port full) quiet Filling old p new q h = omega (arith, ap spare h.ports)
-once_of done spare leaves (Waits port full) quiet (Waiting on) old p new q h = omega (arith, ap spare h.2.ports)
-once_of done spare leaves (Waits port full) quiet Sleeping old p new q h = absurd h
-once_of done spare leaves (Waits port full) quiet Ended old p new q h = absurd h
-once_of done spare leaves (Waits port full) quiet (Stopped why) old p new q h = absurd h
-once_of done spare leaves Sleeps true (Acted a) old p new q h = absurd h
-once_of done spare leaves Sleeps false (Acted a) old p new q h = absurd h
-once_of done spare leaves Sleeps true Filling old p new q h = absurd h
-once_of done spare leaves Sleeps false Filling old p new q h = absurd h
-once_of done spare leaves Sleeps true (Waiting on) old p new q h = absurd h
-once_of done spare leaves Sleeps false (Waiting on) old p new q h = absurd h
-once_of done spare leaves Sleeps true Sleeping old p new q h = absurd h
-once_of done spare leaves Sleeps false Sleeping old p new q h = omega (arith, ap spare h.ports)
-once_of done spare leaves Sleeps true Ended old p new q h = omega (arith, ap spare h.ports)
-once_of done spare leaves Sleeps false Ended old p new q h = absurd h
-once_of done spare leaves Sleeps true (Stopped why) old p new q h = absurd h
-once_of done spare leaves Sleeps false (Stopped why) old p new q h = absurd h
-once_of done spare leaves Ends quiet (Acted a) old p new q h = absurd h
-once_of done spare leaves Ends quiet Filling old p new q h = absurd h
-once_of done spare leaves Ends quiet (Waiting on) old p new q h = absurd h
-once_of done spare leaves Ends quiet Sleeping old p new q h = absurd h
-once_of done spare leaves Ends quiet Ended old p new q h = omega (arith, ap spare h.ports)
-once_of done spare leaves Ends quiet (Stopped why) old p new q h = absurd h
-once_of done spare leaves (Stops cause) quiet (Acted a) old p new q h = absurd h
-once_of done spare leaves (Stops cause) quiet Filling old p new q h = absurd h
-once_of done spare leaves (Stops cause) quiet (Waiting on) old p new q h = absurd h
-once_of done spare leaves (Stops cause) quiet Sleeping old p new q h = absurd h
-once_of done spare leaves (Stops cause) quiet Ended old p new q h = absurd h
-once_of done spare leaves (Stops cause) quiet (Stopped why) old p new q h = omega (arith, ap spare h.1.ports)
+once_of : {P : Type 0} (done : P → List Action) (spare : P → ℕ) (leaves : P → Action → P → Type 0) (d : Due) (held quiet : Bool) (answer : Tick) (old : CoreState) (p : P) (new : CoreState) (q : P) → TickOf done spare leaves d held quiet answer old p new q → spare p ≤ spare q + 1
+once_of done spare leaves (Does deed) false quiet (Acted a) old p new q h = moves_once done spare leaves deed.action p q h.1.ports
+once_of done spare leaves (Does deed) true quiet (Acted a) old p new q h = absurd h
+once_of done spare leaves (Does deed) true quiet Filling old p new q h = omega (arith, ap spare h.ports)
+once_of done spare leaves (Does deed) false quiet Filling old p new q h = absurd h
+once_of done spare leaves (Does deed) true quiet (Waiting on) old p new q h = absurd h
+once_of done spare leaves (Does deed) false quiet (Waiting on) old p new q h = absurd h
+once_of done spare leaves (Does deed) true quiet Sleeping old p new q h = absurd h
+once_of done spare leaves (Does deed) false quiet Sleeping old p new q h = absurd h
+once_of done spare leaves (Does deed) true quiet Ended old p new q h = absurd h
+once_of done spare leaves (Does deed) false quiet Ended old p new q h = absurd h
+once_of done spare leaves (Does deed) true quiet (Stopped why) old p new q h = absurd h
+once_of done spare leaves (Does deed) false quiet (Stopped why) old p new q h = absurd h
+once_of done spare leaves (Waits port full) true quiet (Acted a) old p new q h = absurd h
+once_of done spare leaves (Waits port full) false quiet (Acted a) old p new q h = absurd h
+once_of done spare leaves (Waits port full) true quiet Filling old p new q h = omega (arith, ap spare h.ports)
+once_of done spare leaves (Waits port full) false quiet Filling old p new q h = absurd h
+once_of done spare leaves (Waits port full) false quiet (Waiting on) old p new q h = omega (arith, ap spare h.1.ports)
+once_of done spare leaves (Waits port full) true quiet (Waiting on) old p new q h = absurd h
+once_of done spare leaves (Waits port full) true quiet Sleeping old p new q h = absurd h
+once_of done spare leaves (Waits port full) false quiet Sleeping old p new q h = absurd h
+once_of done spare leaves (Waits port full) true quiet Ended old p new q h = absurd h
+once_of done spare leaves (Waits port full) false quiet Ended old p new q h = absurd h
+once_of done spare leaves (Waits port full) true quiet (Stopped why) old p new q h = absurd h
+once_of done spare leaves (Waits port full) false quiet (Stopped why) old p new q h = absurd h
+once_of done spare leaves Sleeps held true (Acted a) old p new q h = absurd h
+once_of done spare leaves Sleeps held false (Acted a) old p new q h = absurd h
+once_of done spare leaves Sleeps held true Filling old p new q h = absurd h
+once_of done spare leaves Sleeps held false Filling old p new q h = absurd h
+once_of done spare leaves Sleeps held true (Waiting on) old p new q h = absurd h
+once_of done spare leaves Sleeps held false (Waiting on) old p new q h = absurd h
+once_of done spare leaves Sleeps held true Sleeping old p new q h = absurd h
+once_of done spare leaves Sleeps held false Sleeping old p new q h = omega (arith, ap spare h.ports)
+once_of done spare leaves Sleeps held true Ended old p new q h = omega (arith, ap spare h.ports)
+once_of done spare leaves Sleeps held false Ended old p new q h = absurd h
+once_of done spare leaves Sleeps held true (Stopped why) old p new q h = absurd h
+once_of done spare leaves Sleeps held false (Stopped why) old p new q h = absurd h
+once_of done spare leaves Ends held quiet (Acted a) old p new q h = absurd h
+once_of done spare leaves Ends held quiet Filling old p new q h = absurd h
+once_of done spare leaves Ends held quiet (Waiting on) old p new q h = absurd h
+once_of done spare leaves Ends held quiet Sleeping old p new q h = absurd h
+once_of done spare leaves Ends held quiet Ended old p new q h = omega (arith, ap spare h.ports)
+once_of done spare leaves Ends held quiet (Stopped why) old p new q h = absurd h
+once_of done spare leaves (Stops cause) held quiet (Acted a) old p new q h = absurd h
+once_of done spare leaves (Stops cause) held quiet Filling old p new q h = absurd h
+once_of done spare leaves (Stops cause) held quiet (Waiting on) old p new q h = absurd h
+once_of done spare leaves (Stops cause) held quiet Sleeping old p new q h = absurd h
+once_of done spare leaves (Stops cause) held quiet Ended old p new q h = absurd h
+once_of done spare leaves (Stops cause) held quiet (Stopped why) old p new q h = omega (arith, ap spare h.1.ports)
 
 pub tick_once : {P : Type 0} {done : P → List Action} {spare : P → ℕ} {leaves : P → Action → P → Type 0} {shown : Shown} {answer : Tick} {old new : CoreState} {p q : P} → Ticks done spare leaves shown answer old p new q → spare p ≤ spare q + 1
-tick_once {done = done} {spare = spare} {leaves = leaves} {shown = shown} {answer = answer} {old = old} {new = new} {p = p} {q = q} h = once_of done spare leaves (due old.view shown) (is_view_quiet old.view shown) answer old p new q h.does
+tick_once {done = done} {spare = spare} {leaves = leaves} {shown = shown} {answer = answer} {old = old} {new = new} {p = p} {q = q} h = once_of done spare leaves (due old.view shown) (is_held old shown) (is_view_quiet old.view shown) answer old p new q h.does
 
 -- what no action of a core changes, a tick doesn't
 moves_keep : {P X : Type 0} (done : P → List Action) (spare : P → ℕ) (leaves : P → Action → P → Type 0) (part : P → X) (o : Option Action) (p q : P) → ((a : Action) → leaves p a q → part q ≡ part p) → Moves done spare leaves p o q → part q ≡ part p
 moves_keep done spare leaves part None p q does h = ap part h
 moves_keep done spare leaves part (Some a) p q does h = does a h.left
 
-kept_of : {P X : Type 0} (done : P → List Action) (spare : P → ℕ) (leaves : P → Action → P → Type 0) (part : P → X) (d : Due) (quiet : Bool) (answer : Tick) (old : CoreState) (p : P) (new : CoreState) (q : P) → ((a : Action) → leaves p a q → part q ≡ part p) → TickOf done spare leaves d quiet answer old p new q → part q ≡ part p
-kept_of done spare leaves part (Does deed) quiet (Acted a) old p new q does h = moves_keep done spare leaves part deed.action p q does h.1.ports
-kept_of done spare leaves part (Does deed) quiet Filling old p new q does h = ap part h.ports
-kept_of done spare leaves part (Does deed) quiet (Waiting on) old p new q does h = absurd h
-kept_of done spare leaves part (Does deed) quiet Sleeping old p new q does h = absurd h
-kept_of done spare leaves part (Does deed) quiet Ended old p new q does h = absurd h
-kept_of done spare leaves part (Does deed) quiet (Stopped why) old p new q does h = absurd h
-kept_of done spare leaves part (Waits port full) quiet (Acted a) old p new q does h = absurd h
-kept_of done spare leaves part (Waits port full) quiet Filling old p new q does h = ap part h.ports
-kept_of done spare leaves part (Waits port full) quiet (Waiting on) old p new q does h = ap part h.2.ports
-kept_of done spare leaves part (Waits port full) quiet Sleeping old p new q does h = absurd h
-kept_of done spare leaves part (Waits port full) quiet Ended old p new q does h = absurd h
-kept_of done spare leaves part (Waits port full) quiet (Stopped why) old p new q does h = absurd h
-kept_of done spare leaves part Sleeps true (Acted a) old p new q does h = absurd h
-kept_of done spare leaves part Sleeps false (Acted a) old p new q does h = absurd h
-kept_of done spare leaves part Sleeps true Filling old p new q does h = absurd h
-kept_of done spare leaves part Sleeps false Filling old p new q does h = absurd h
-kept_of done spare leaves part Sleeps true (Waiting on) old p new q does h = absurd h
-kept_of done spare leaves part Sleeps false (Waiting on) old p new q does h = absurd h
-kept_of done spare leaves part Sleeps true Sleeping old p new q does h = absurd h
-kept_of done spare leaves part Sleeps false Sleeping old p new q does h = ap part h.ports
-kept_of done spare leaves part Sleeps true Ended old p new q does h = ap part h.ports
-kept_of done spare leaves part Sleeps false Ended old p new q does h = absurd h
-kept_of done spare leaves part Sleeps true (Stopped why) old p new q does h = absurd h
-kept_of done spare leaves part Sleeps false (Stopped why) old p new q does h = absurd h
-kept_of done spare leaves part Ends quiet (Acted a) old p new q does h = absurd h
-kept_of done spare leaves part Ends quiet Filling old p new q does h = absurd h
-kept_of done spare leaves part Ends quiet (Waiting on) old p new q does h = absurd h
-kept_of done spare leaves part Ends quiet Sleeping old p new q does h = absurd h
-kept_of done spare leaves part Ends quiet Ended old p new q does h = ap part h.ports
-kept_of done spare leaves part Ends quiet (Stopped why) old p new q does h = absurd h
-kept_of done spare leaves part (Stops cause) quiet (Acted a) old p new q does h = absurd h
-kept_of done spare leaves part (Stops cause) quiet Filling old p new q does h = absurd h
-kept_of done spare leaves part (Stops cause) quiet (Waiting on) old p new q does h = absurd h
-kept_of done spare leaves part (Stops cause) quiet Sleeping old p new q does h = absurd h
-kept_of done spare leaves part (Stops cause) quiet Ended old p new q does h = absurd h
-kept_of done spare leaves part (Stops cause) quiet (Stopped why) old p new q does h = ap part h.1.ports
+kept_of : {P X : Type 0} (done : P → List Action) (spare : P → ℕ) (leaves : P → Action → P → Type 0) (part : P → X) (d : Due) (held quiet : Bool) (answer : Tick) (old : CoreState) (p : P) (new : CoreState) (q : P) → ((a : Action) → leaves p a q → part q ≡ part p) → TickOf done spare leaves d held quiet answer old p new q → part q ≡ part p
+kept_of done spare leaves part (Does deed) false quiet (Acted a) old p new q does h = moves_keep done spare leaves part deed.action p q does h.1.ports
+kept_of done spare leaves part (Does deed) true quiet (Acted a) old p new q does h = absurd h
+kept_of done spare leaves part (Does deed) true quiet Filling old p new q does h = ap part h.ports
+kept_of done spare leaves part (Does deed) false quiet Filling old p new q does h = absurd h
+kept_of done spare leaves part (Does deed) true quiet (Waiting on) old p new q does h = absurd h
+kept_of done spare leaves part (Does deed) false quiet (Waiting on) old p new q does h = absurd h
+kept_of done spare leaves part (Does deed) true quiet Sleeping old p new q does h = absurd h
+kept_of done spare leaves part (Does deed) false quiet Sleeping old p new q does h = absurd h
+kept_of done spare leaves part (Does deed) true quiet Ended old p new q does h = absurd h
+kept_of done spare leaves part (Does deed) false quiet Ended old p new q does h = absurd h
+kept_of done spare leaves part (Does deed) true quiet (Stopped why) old p new q does h = absurd h
+kept_of done spare leaves part (Does deed) false quiet (Stopped why) old p new q does h = absurd h
+kept_of done spare leaves part (Waits port full) true quiet (Acted a) old p new q does h = absurd h
+kept_of done spare leaves part (Waits port full) false quiet (Acted a) old p new q does h = absurd h
+kept_of done spare leaves part (Waits port full) true quiet Filling old p new q does h = ap part h.ports
+kept_of done spare leaves part (Waits port full) false quiet Filling old p new q does h = absurd h
+kept_of done spare leaves part (Waits port full) false quiet (Waiting on) old p new q does h = ap part h.1.ports
+kept_of done spare leaves part (Waits port full) true quiet (Waiting on) old p new q does h = absurd h
+kept_of done spare leaves part (Waits port full) true quiet Sleeping old p new q does h = absurd h
+kept_of done spare leaves part (Waits port full) false quiet Sleeping old p new q does h = absurd h
+kept_of done spare leaves part (Waits port full) true quiet Ended old p new q does h = absurd h
+kept_of done spare leaves part (Waits port full) false quiet Ended old p new q does h = absurd h
+kept_of done spare leaves part (Waits port full) true quiet (Stopped why) old p new q does h = absurd h
+kept_of done spare leaves part (Waits port full) false quiet (Stopped why) old p new q does h = absurd h
+kept_of done spare leaves part Sleeps held true (Acted a) old p new q does h = absurd h
+kept_of done spare leaves part Sleeps held false (Acted a) old p new q does h = absurd h
+kept_of done spare leaves part Sleeps held true Filling old p new q does h = absurd h
+kept_of done spare leaves part Sleeps held false Filling old p new q does h = absurd h
+kept_of done spare leaves part Sleeps held true (Waiting on) old p new q does h = absurd h
+kept_of done spare leaves part Sleeps held false (Waiting on) old p new q does h = absurd h
+kept_of done spare leaves part Sleeps held true Sleeping old p new q does h = absurd h
+kept_of done spare leaves part Sleeps held false Sleeping old p new q does h = ap part h.ports
+kept_of done spare leaves part Sleeps held true Ended old p new q does h = ap part h.ports
+kept_of done spare leaves part Sleeps held false Ended old p new q does h = absurd h
+kept_of done spare leaves part Sleeps held true (Stopped why) old p new q does h = absurd h
+kept_of done spare leaves part Sleeps held false (Stopped why) old p new q does h = absurd h
+kept_of done spare leaves part Ends held quiet (Acted a) old p new q does h = absurd h
+kept_of done spare leaves part Ends held quiet Filling old p new q does h = absurd h
+kept_of done spare leaves part Ends held quiet (Waiting on) old p new q does h = absurd h
+kept_of done spare leaves part Ends held quiet Sleeping old p new q does h = absurd h
+kept_of done spare leaves part Ends held quiet Ended old p new q does h = ap part h.ports
+kept_of done spare leaves part Ends held quiet (Stopped why) old p new q does h = absurd h
+kept_of done spare leaves part (Stops cause) held quiet (Acted a) old p new q does h = absurd h
+kept_of done spare leaves part (Stops cause) held quiet Filling old p new q does h = absurd h
+kept_of done spare leaves part (Stops cause) held quiet (Waiting on) old p new q does h = absurd h
+kept_of done spare leaves part (Stops cause) held quiet Sleeping old p new q does h = absurd h
+kept_of done spare leaves part (Stops cause) held quiet Ended old p new q does h = absurd h
+kept_of done spare leaves part (Stops cause) held quiet (Stopped why) old p new q does h = ap part h.1.ports
 
 pub tick_keeps : {P X : Type 0} {done : P → List Action} {spare : P → ℕ} {leaves : P → Action → P → Type 0} {shown : Shown} {answer : Tick} {old new : CoreState} {p q : P} (part : P → X) → ((a : Action) → leaves p a q → part q ≡ part p) → Ticks done spare leaves shown answer old p new q → part q ≡ part p
-tick_keeps {done = done} {spare = spare} {leaves = leaves} {shown = shown} {answer = answer} {old = old} {new = new} {p = p} {q = q} part does h = kept_of done spare leaves part (due old.view shown) (is_view_quiet old.view shown) answer old p new q does h.does
+tick_keeps {done = done} {spare = spare} {leaves = leaves} {shown = shown} {answer = answer} {old = old} {new = new} {p = p} {q = q} part does h = kept_of done spare leaves part (due old.view shown) (is_held old shown) (is_view_quiet old.view shown) answer old p new q does h.does
 
 -- no answer changes the lines
 waited_lines : (core act : ℕ) (on : WaitOn) (f : Fabric) (kept : Bool) → (cond kept f (entered core act (Wait on) f)).lines ≡ f.lines
@@ -194,46 +230,58 @@ answered_lines core act Ended f = refl
 answered_lines core act (Stopped why) f = refl
 
 -- the answer of a tick says what was due, and whether it was done
-answer_of : {P : Type 0} (done : P → List Action) (spare : P → ℕ) (leaves : P → Action → P → Type 0) (d : Due) (quiet : Bool) (answer : Tick) (old : CoreState) (p : P) (new : CoreState) (q : P) → TickOf done spare leaves d quiet answer old p new q → AnswerOf d quiet answer (core_of old) (core_of new)
-answer_of done spare leaves (Does deed) quiet (Acted a) old p new q h = (h.0, ap (λ (s : CoreState). s.acts) h.1.core)
-answer_of done spare leaves (Does deed) quiet Filling old p new q h = (h.less, ap (λ (s : CoreState). s.acts) h.core)
-answer_of done spare leaves (Does deed) quiet (Waiting on) old p new q h = absurd h
-answer_of done spare leaves (Does deed) quiet Sleeping old p new q h = absurd h
-answer_of done spare leaves (Does deed) quiet Ended old p new q h = absurd h
-answer_of done spare leaves (Does deed) quiet (Stopped why) old p new q h = absurd h
-answer_of done spare leaves (Waits port full) quiet (Acted a) old p new q h = absurd h
-answer_of done spare leaves (Waits port full) quiet Filling old p new q h = h.less
-answer_of done spare leaves (Waits port full) quiet (Waiting on) old p new q h = (h.0, ap (λ (s : CoreState). s.slack) h.2.core)
-answer_of done spare leaves (Waits port full) quiet Sleeping old p new q h = absurd h
-answer_of done spare leaves (Waits port full) quiet Ended old p new q h = absurd h
-answer_of done spare leaves (Waits port full) quiet (Stopped why) old p new q h = absurd h
-answer_of done spare leaves Sleeps true (Acted a) old p new q h = absurd h
-answer_of done spare leaves Sleeps true Filling old p new q h = absurd h
-answer_of done spare leaves Sleeps true (Waiting on) old p new q h = absurd h
-answer_of done spare leaves Sleeps true Sleeping old p new q h = absurd h
-answer_of done spare leaves Sleeps true Ended old p new q h = tt
-answer_of done spare leaves Sleeps true (Stopped why) old p new q h = absurd h
-answer_of done spare leaves Sleeps false (Acted a) old p new q h = absurd h
-answer_of done spare leaves Sleeps false Filling old p new q h = absurd h
-answer_of done spare leaves Sleeps false (Waiting on) old p new q h = absurd h
-answer_of done spare leaves Sleeps false Sleeping old p new q h = tt
-answer_of done spare leaves Sleeps false Ended old p new q h = absurd h
-answer_of done spare leaves Sleeps false (Stopped why) old p new q h = absurd h
-answer_of done spare leaves Ends quiet (Acted a) old p new q h = absurd h
-answer_of done spare leaves Ends quiet Filling old p new q h = absurd h
-answer_of done spare leaves Ends quiet (Waiting on) old p new q h = absurd h
-answer_of done spare leaves Ends quiet Sleeping old p new q h = absurd h
-answer_of done spare leaves Ends quiet Ended old p new q h = tt
-answer_of done spare leaves Ends quiet (Stopped why) old p new q h = absurd h
-answer_of done spare leaves (Stops cause) quiet (Acted a) old p new q h = absurd h
-answer_of done spare leaves (Stops cause) quiet Filling old p new q h = absurd h
-answer_of done spare leaves (Stops cause) quiet (Waiting on) old p new q h = absurd h
-answer_of done spare leaves (Stops cause) quiet Sleeping old p new q h = absurd h
-answer_of done spare leaves (Stops cause) quiet Ended old p new q h = absurd h
-answer_of done spare leaves (Stops cause) quiet (Stopped why) old p new q h = h.0
+answer_of : {P : Type 0} (done : P → List Action) (spare : P → ℕ) (leaves : P → Action → P → Type 0) (d : Due) (held quiet : Bool) (answer : Tick) (old : CoreState) (p : P) (new : CoreState) (q : P) → TickOf done spare leaves d held quiet answer old p new q → AnswerOf d quiet answer (core_of old) (core_of new)
+answer_of done spare leaves (Does deed) false quiet (Acted a) old p new q h = (h.0, ap (λ (s : CoreState). s.acts) h.1.core)
+answer_of done spare leaves (Does deed) true quiet (Acted a) old p new q h = absurd h
+answer_of done spare leaves (Does deed) true quiet Filling old p new q h = (h.less, ap (λ (s : CoreState). s.acts) h.core)
+answer_of done spare leaves (Does deed) false quiet Filling old p new q h = absurd h
+answer_of done spare leaves (Does deed) true quiet (Waiting on) old p new q h = absurd h
+answer_of done spare leaves (Does deed) false quiet (Waiting on) old p new q h = absurd h
+answer_of done spare leaves (Does deed) true quiet Sleeping old p new q h = absurd h
+answer_of done spare leaves (Does deed) false quiet Sleeping old p new q h = absurd h
+answer_of done spare leaves (Does deed) true quiet Ended old p new q h = absurd h
+answer_of done spare leaves (Does deed) false quiet Ended old p new q h = absurd h
+answer_of done spare leaves (Does deed) true quiet (Stopped why) old p new q h = absurd h
+answer_of done spare leaves (Does deed) false quiet (Stopped why) old p new q h = absurd h
+answer_of done spare leaves (Waits port full) true quiet (Acted a) old p new q h = absurd h
+answer_of done spare leaves (Waits port full) false quiet (Acted a) old p new q h = absurd h
+answer_of done spare leaves (Waits port full) true quiet Filling old p new q h = h.less
+answer_of done spare leaves (Waits port full) false quiet Filling old p new q h = absurd h
+answer_of done spare leaves (Waits port full) false quiet (Waiting on) old p new q h = (h.0, ap (λ (s : CoreState). s.slack) h.1.core)
+answer_of done spare leaves (Waits port full) true quiet (Waiting on) old p new q h = absurd h
+answer_of done spare leaves (Waits port full) true quiet Sleeping old p new q h = absurd h
+answer_of done spare leaves (Waits port full) false quiet Sleeping old p new q h = absurd h
+answer_of done spare leaves (Waits port full) true quiet Ended old p new q h = absurd h
+answer_of done spare leaves (Waits port full) false quiet Ended old p new q h = absurd h
+answer_of done spare leaves (Waits port full) true quiet (Stopped why) old p new q h = absurd h
+answer_of done spare leaves (Waits port full) false quiet (Stopped why) old p new q h = absurd h
+answer_of done spare leaves Sleeps held true (Acted a) old p new q h = absurd h
+answer_of done spare leaves Sleeps held true Filling old p new q h = absurd h
+answer_of done spare leaves Sleeps held true (Waiting on) old p new q h = absurd h
+answer_of done spare leaves Sleeps held true Sleeping old p new q h = absurd h
+answer_of done spare leaves Sleeps held true Ended old p new q h = tt
+answer_of done spare leaves Sleeps held true (Stopped why) old p new q h = absurd h
+answer_of done spare leaves Sleeps held false (Acted a) old p new q h = absurd h
+answer_of done spare leaves Sleeps held false Filling old p new q h = absurd h
+answer_of done spare leaves Sleeps held false (Waiting on) old p new q h = absurd h
+answer_of done spare leaves Sleeps held false Sleeping old p new q h = tt
+answer_of done spare leaves Sleeps held false Ended old p new q h = absurd h
+answer_of done spare leaves Sleeps held false (Stopped why) old p new q h = absurd h
+answer_of done spare leaves Ends held quiet (Acted a) old p new q h = absurd h
+answer_of done spare leaves Ends held quiet Filling old p new q h = absurd h
+answer_of done spare leaves Ends held quiet (Waiting on) old p new q h = absurd h
+answer_of done spare leaves Ends held quiet Sleeping old p new q h = absurd h
+answer_of done spare leaves Ends held quiet Ended old p new q h = tt
+answer_of done spare leaves Ends held quiet (Stopped why) old p new q h = absurd h
+answer_of done spare leaves (Stops cause) held quiet (Acted a) old p new q h = absurd h
+answer_of done spare leaves (Stops cause) held quiet Filling old p new q h = absurd h
+answer_of done spare leaves (Stops cause) held quiet (Waiting on) old p new q h = absurd h
+answer_of done spare leaves (Stops cause) held quiet Sleeping old p new q h = absurd h
+answer_of done spare leaves (Stops cause) held quiet Ended old p new q h = absurd h
+answer_of done spare leaves (Stops cause) held quiet (Stopped why) old p new q h = h.0
 
 pub tick_says : {P : Type 0} {done : P → List Action} {spare : P → ℕ} {leaves : P → Action → P → Type 0} {shown : Shown} {answer : Tick} {old new : CoreState} {p q : P} → Ticks done spare leaves shown answer old p new q → AnswerOf (due old.view shown) (is_view_quiet old.view shown) answer (core_of old) (core_of new)
-tick_says {done = done} {spare = spare} {leaves = leaves} {shown = shown} {answer = answer} {old = old} {new = new} {p = p} {q = q} h = answer_of done spare leaves (due old.view shown) (is_view_quiet old.view shown) answer old p new q h.does
+tick_says {done = done} {spare = spare} {leaves = leaves} {shown = shown} {answer = answer} {old = old} {new = new} {p = p} {q = q} h = answer_of done spare leaves (due old.view shown) (is_held old shown) (is_view_quiet old.view shown) answer old p new q h.does
 
 -- an act that is done at once is a tick of the board machine, and leaves the fabric
 alone_of : (core : ℕ) (d : Due) (old new : CoreState) (f : Fabric) → AloneOf d old new → TickMay core d (core_of old) f (core_of new) f

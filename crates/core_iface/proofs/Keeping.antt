@@ -16,7 +16,7 @@ use Rattle.prepared_act.specs.declared.prepared.Prepared.{Prepared}
 use Rattle.prepared_act.specs.Prepared.{IsInner}
 use Rattle.prepared_act.specs.Retiring.{Suits, view_of}
 use Rattle.prepared_act.proofs.Placing.{no_link}
-use Rattle.core_iface.specs.Words.{IsAt, IsMet, goes_on, goes_on_instr, place_of}
+use Rattle.core_iface.specs.Words.{IsAt, IsMet, goes_on, place_of}
 use Rattle.core_iface.proofs.GoesOn.{goes}
 
 aligned : (b : Bool) (x y : Option Here) → b ≡ true → (if b then x else y) ≡ x

@@ -1,5 +1,5 @@
 -- An instruction of an inner kind that stands in its place is done as its kind says.
-use Rattle.std.specs.Prelude.{◌≡◌, ℕ, ◌&&◌, not, Bool, true, false, List, Some, is_some, if◌then◌else◌}
+use Rattle.std.specs.Prelude.{◌≡◌, ℕ, ◌&&◌, not, Bool, true, false, List, Option, Some, None, is_some, if◌then◌else◌, IfSome}
 use Rattle.std.proofs.Common.{refl, subst}
 use Rattle.core_regs.specs.declared.registers.Arch.{Arch}
 use Rattle.core_regs.specs.State.{bare, reg}
@@ -12,12 +12,18 @@ use Rattle.op_table.specs.Table.{kind_of, second_of}
 use Rattle.isa_step.specs.Links.{is_nonblocking}
 use Rattle.isa_step.specs.Deeds.{View, Want}
 use Rattle.isa_step.specs.Wants.{belongs_into_slot, effect, given, is_banned, is_link, operands_by, second_value, wants_kind}
+use Rattle.prepared_act.specs.declared.flow.Flow.{Flow}
 use Rattle.prepared_act.specs.Prepared.{is_inner}
 use Rattle.prepared_act.specs.Retiring.{RetiresWant, supplied}
 
-other : (v w : View) (b : Bool) (x y : Want) → b ≡ false → RetiresWant y v w → RetiresWant (if b then x else y) v w
-other v w true x y e done = cc
-other v w false x y e done = done
+-- what holds for each flow carries a fact of an answer over
+pub for_some : (o : Option Flow) (P Q : Flow → Type 0) → ((flow : Flow) → P flow → Q flow) → IfSome o P → IfSome o Q
+for_some None P Q so h = h
+for_some (Some flow) P Q so h = so flow h
+
+other : (flow : Flow) (v w : View) (b : Bool) (x y : Want) → b ≡ false → RetiresWant y flow v w → RetiresWant (if b then x else y) flow v w
+other flow v w true x y e done = cc
+other flow v w false x y e done = done
 
 pub no_link : (kind : Kind) → is_inner kind ≡ true → is_link kind ≡ false
 unfolding is_inner
@@ -30,12 +36,12 @@ middle true true b e = cc
 middle true false b e = refl
 middle false l b e = refl
 
-placed : (kind : Kind) (i : Instr) (word : ℕ) (o : Operands) (a : Arch) (m : List ℕ) (v w : View)
+placed : (kind : Kind) (i : Instr) (word : ℕ) (o : Operands) (a : Arch) (m : List ℕ) (flow : Flow) (v w : View)
     → is_link kind ≡ false → (is_some a.slot && not (belongs_into_slot kind)) ≡ false
-    → RetiresWant (effect kind (given i o a) a m) v w → RetiresWant (wants_kind kind i word o a m) v w
-placed kind i word o a m v w link slot done =
-    other v w (is_banned i kind a.network) _ _ (middle a.network (is_link kind) (is_nonblocking i.flags) link)
-    (other v w (is_some a.slot && not (belongs_into_slot kind)) _ _ slot done)
+    → RetiresWant (effect kind (given i o a) a m) flow v w → RetiresWant (wants_kind kind i word o a m) flow v w
+placed kind i word o a m flow v w link slot done =
+    other flow v w (is_banned i kind a.network) _ _ (middle a.network (is_link kind) (is_nonblocking i.flags) link)
+    (other flow v w (is_some a.slot && not (belongs_into_slot kind)) _ _ slot done)
 
 supplied_is_given : (i : Instr) (a : Arch) (x y : ℕ)
     → x ≡ reg a.regs i.ra → y ≡ second_value (second_of i.op) (bare a) i (operands_by (Some i) a.regs)
@@ -43,14 +49,14 @@ supplied_is_given : (i : Instr) (a : Arch) (x y : ℕ)
 unfolding given
 supplied_is_given i a x y ex ey = rw (ex, ey) refl
 
-pub in_place : (kind : Kind) (i : Instr) (word : ℕ) (a : Arch) (m : List ℕ) (x y : ℕ) (v w : View)
+pub in_place : (kind : Kind) (i : Instr) (word : ℕ) (a : Arch) (m : List ℕ) (x y : ℕ) (flow : Flow) (v w : View)
     → kind ≡ kind_of i.op → is_inner (kind_of i.op) ≡ true
     → x ≡ reg a.regs i.ra → y ≡ second_value (second_of i.op) (bare a) i (operands_by (Some i) a.regs)
     → (is_some a.slot && not (belongs_into_slot kind)) ≡ false
-    → RetiresWant (effect kind (supplied i x y a) (bare a) m) v w
-    → RetiresWant (wants_kind (kind_of i.op) i word (operands_by (Some i) a.regs) (bare a) m) v w
-in_place kind i word a m x y v w is inner ex ey slot done =
-    placed (kind_of i.op) i word _ (bare a) m v w (no_link _ inner)
+    → RetiresWant (effect kind (supplied i x y a) (bare a) m) flow v w
+    → RetiresWant (wants_kind (kind_of i.op) i word (operands_by (Some i) a.regs) (bare a) m) flow v w
+in_place kind i word a m x y flow v w is inner ex ey slot done =
+    placed (kind_of i.op) i word _ (bare a) m flow v w (no_link _ inner)
     (subst (λ (k : Kind). (is_some a.slot && not (belongs_into_slot k)) ≡ false) is slot)
-    (subst (λ (k : Kind). RetiresWant (effect k (given i (operands_by (Some i) a.regs) (bare a)) (bare a) m) v w) is
-    (subst (λ (g : Given). RetiresWant (effect kind g (bare a) m) v w) (supplied_is_given i a x y ex ey) done))
+    (subst (λ (k : Kind). RetiresWant (effect k (given i (operands_by (Some i) a.regs) (bare a)) (bare a) m) flow v w) is
+    (subst (λ (g : Given). RetiresWant (effect kind g (bare a) m) flow v w) (supplied_is_given i a x y ex ey) done))

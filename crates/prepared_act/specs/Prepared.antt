@@ -1,9 +1,10 @@
 -- What can be told of a word before its act.
-use Rattle.std.specs.Prelude.{◌≡◌, ℕ, ◌==◌, Bool, true, false, Some}
+use Rattle.std.specs.Prelude.{◌≡◌, ℕ, ◌==◌, ◌&&◌, not, Bool, true, false, Option, Some, None}
 use Rattle.mb_word.specs.Word.{sign_extend_16}
 use Rattle.mb_decode.specs.declared.instruction.Instr.{Instr}
-use Rattle.mb_decode.specs.Meaning.{meaning}
+use Rattle.mb_decode.specs.Meaning.{NamesRegisters, meaning}
 use Rattle.isa_step.specs.Wants.{end_word}
+use Rattle.isa_step.specs.declared.acts.Late.{Late}
 use Rattle.op_table.specs.declared.kinds.Kind.{Kind}
 use Rattle.op_table.specs.declared.kinds.Kind.TheVariants.{Divide, Cache, MoveFrom, MoveToMsr, SetMsr, ClearMsr, Break, Barrier, Return, Get, Put}
 use Rattle.op_table.specs.declared.kinds.Return.{Return as From}
@@ -11,12 +12,21 @@ use Rattle.op_table.specs.declared.kinds.Return.TheVariants as ret
 use Rattle.op_table.specs.declared.kinds.Second.{Second}
 use Rattle.op_table.specs.declared.kinds.Second.TheVariants.{Register, Immediate, Count}
 use Rattle.op_table.specs.Table.{kind_of}
+use Rattle.isa_step.specs.Wants.{late_at, latency_of}
 
 -- the field of the second operand as it is used where no prefix is held
 abbrev pub extended_of : Second → ℕ → ℕ
 extended_of Register imm = sign_extend_16 imm
 extended_of Immediate imm = sign_extend_16 imm
 extended_of Count imm = imm
+
+-- the register that an instruction makes late, and 0 where it makes none late
+abbrev pub number_of : Option Late → ℕ
+number_of None = 0
+number_of (Some l) = l.reg
+
+abbrev pub late_register : Instr → ℕ
+late_register i = number_of (late_at i.rd (latency_of (kind_of i.op)))
 
 abbrev pub is_return : From → Bool
 is_return ret.Subroutine = true

@@ -1,13 +1,17 @@
 -- An act that asks nothing of the outside and retires.
-use Rattle.std.specs.Prelude.{◌≡◌, ℕ, ◌||◌, ◌&&◌, not, is_some, Bool, true, false, List, Option, None}
+use Rattle.std.specs.Prelude.{◌≡◌, ℕ, ◌||◌, ◌&&◌, not, is_some, Bool, true, false, List, Option, Some, None}
 use Rattle.core_regs.specs.declared.registers.Arch.{Arch}
 use Rattle.core_regs.specs.State.{bare, reg, written}
 use Rattle.mb_decode.specs.declared.instruction.Instr.{Instr}
 use Rattle.isa_step.specs.declared.acts.Act.TheVariants as acts
+use Rattle.isa_step.specs.declared.acts.Done.{Done}
 use Rattle.isa_step.specs.declared.acts.Here.{Here}
+use Rattle.isa_step.specs.declared.acts.Store.{Store}
 use Rattle.isa_step.specs.declared.supplying.Given.{Given}
 use Rattle.op_table.specs.Table.{kind_of}
 use Rattle.isa_step.specs.Shown.{Shown}
+use Rattle.prepared_act.specs.declared.flow.Flow.{Flow}
+use Rattle.prepared_act.specs.declared.flow.Flow.TheVariants.{On, Jumped, Stored}
 use Rattle.prepared_act.specs.declared.prepared.Prepared.{Prepared}
 use Rattle.isa_step.specs.Deeds.{Deed, Due, Does, Want, Goes, View, after}
 use Rattle.isa_step.specs.Due.{due_with}
@@ -20,10 +24,20 @@ is_offered s = s.line || s.breaks.maskable || s.breaks.nonmaskable
 abbrev pub view_of : Arch → List ℕ → View
 view_of a m = record { arch = a; memory = m }
 
--- the deed asks nothing of the outside and retires, and the view is what it leaves
-pub record IsRetired (deed : Deed) (v w : View) : Type 0 where
+-- where an instruction that retires leads
+abbrev pub flow_by : Bool → Option Store → Flow
+flow_by true store = Jumped
+flow_by false None = On
+flow_by false (Some s) = Stored s.addr
+
+abbrev pub flow_of : Done → Flow
+flow_of done = flow_by done.jumped done.store
+
+-- the deed asks nothing of the outside, retires and leads as told, and the view is what it leaves
+pub record IsRetired (deed : Deed) (flow : Flow) (v w : View) : Type 0 where
   pub alone : deed.action ≡ None
   pub retired : deed.done.act ≡ acts.Retired
+  pub leads : flow ≡ flow_of deed.done
   pub view : w ≡ after v deed
 
 -- the act of a core at the word is inner, and stands in its place
@@ -41,14 +55,14 @@ abbrev pub arch_after : Arch → Deed → Arch
 arch_after a d = record d.arch { regs = written d.done.write a.regs }
 
 -- of what an instruction asks
-abbrev pub RetiresWant : Want → View → View → Type 0
-RetiresWant (Goes deed) v w = IsRetired deed v w
-RetiresWant _ v w = ⊥
+abbrev pub RetiresWant : Want → Flow → View → View → Type 0
+RetiresWant (Goes deed) flow v w = IsRetired deed flow v w
+RetiresWant _ flow v w = ⊥
 
 -- of what is due
-abbrev pub RetiresDue : Due → View → View → Type 0
-RetiresDue (Does deed) v w = IsRetired deed v w
-RetiresDue _ v w = ⊥
+abbrev pub RetiresDue : Due → Flow → View → View → Type 0
+RetiresDue (Does deed) flow v w = IsRetired deed flow v w
+RetiresDue _ flow v w = ⊥
 
 -- an instruction with the values of its operands, by the values of rA and of its second operand
 abbrev pub supplied : Instr → ℕ → ℕ → Arch → Given
@@ -63,5 +77,5 @@ supplied i x y a = record {
 }
 
 -- where nothing is offered to a core that runs and is awake, the act that is due at the word is done
-pub record Retires (here : Option Here) (a : Arch) (m : List ℕ) (b : Arch) (n : List ℕ) : Type 0 where
-  pub does : (s : Shown) → is_offered s ≡ false → RetiresDue (due_with here (operands_of here a.regs) (bare a) m s) (view_of a m) (view_of b n)
+pub record Retires (here : Option Here) (a : Arch) (m : List ℕ) (flow : Flow) (b : Arch) (n : List ℕ) : Type 0 where
+  pub does : (s : Shown) → is_offered s ≡ false → RetiresDue (due_with here (operands_of here a.regs) (bare a) m s) flow (view_of a m) (view_of b n)

@@ -1,21 +1,20 @@
 //! A word with what can be told of its act before its operands are known.
 
-ghost use Rattle.std.specs.Prelude.{◌≡◌, ◌==◌, if◌then◌else◌, false, true, None, Some, IfSome};
+ghost use Rattle.std.specs.Prelude.{◌≡◌, ◌<◌, ◌==◌, if◌then◌else◌, false, true, None, Some, IfSome};
 ghost use Rattle.mb_decode.specs.Meaning.{NamesRegisters, meaning};
 ghost use Rattle.op_table.specs.Table.{kind_of, second_of};
-ghost use Rattle.isa_step.specs.Wants.{belongs_into_slot, end_word, late_at, latency_of};
-ghost use Rattle.prepared_act.specs.Prepared.{IsInner, extended_of, is_inner, is_return};
+ghost use Rattle.isa_step.specs.Wants.{belongs_into_slot, end_word};
+ghost use Rattle.prepared_act.specs.Prepared.{IsInner, extended_of, is_inner, is_return, late_register};
 ghost use Rattle.isa_step.specs.Due.{met};
 
 use core_regs::Arch;
-use isa_step::{END_WORD, Here, Late};
+use isa_step::{END_WORD, Here};
 use mb_decode::{Instr, decode};
 use mb_word::sign16;
-use op_table::{
-    Kind, Latency, Op, Return, Second, belongs_into_slot, kind_of, latency_of, second_of,
-};
+use op_table::{Kind, Op, Return, Second, belongs_into_slot, kind_of, latency_of, second_of};
 
-/// A word, and what of its act can be told before its operands are known.
+/// A word, and what of its act can be told before its operands are known: 32 bytes, so that its place in a table is found
+/// by a shift.
 #[derive(Clone, Copy)]
 pub struct Prepared {
     pub word: u32,
@@ -27,17 +26,18 @@ pub struct Prepared {
     pub(crate) second: Second,
     /// The field of the second operand, as it is used where no prefix is held.
     pub(crate) extended: u32,
+    /// The register that the instruction makes late, and 0 where it makes none late.
+    pub late: u32,
     /// Whether the instruction may stand in the slot of a branch.
     pub(crate) fits_slot: bool,
-    /// The register that the instruction makes late.
-    pub late: Option<Late>,
     /// Whether its act asks nothing of the outside, so that it mostly is done at once.
     pub is_inner: bool,
     ghost registers: { NamesRegisters instr },
     ghost kind_met: { kind ≡ kind_of instr.op },
     ghost second_met: { second ≡ second_of instr.op },
     ghost extended_met: { extended ≡ extended_of second instr.imm },
-    ghost late_met: { late ≡ late_at instr.rd (latency_of kind) },
+    ghost late_met: { late ≡ late_register instr },
+    ghost late_named: { late < 32 },
     ghost slot_met: { fits_slot ≡ belongs_into_slot kind },
     ghost meant: { meaning word ≡ (if is_known then Some instr else None) },
     ghost inner: { is_inner ≡ true → IsInner word instr },
@@ -89,13 +89,13 @@ fn extended_of(second: Second, imm: u16) -> u32
     }
 }
 
-fn late_at(reg: u8, latency: Option<Latency>) -> Option<Late>
-    ensures { result ≡ late_at reg latency }
+/// The register that an instruction makes late, and 0 where it makes none late.
+pub fn late_register(i: &Instr) -> u8
+    requires { NamesRegisters i.now }
+    ensures value { result ≡ late_register i.now }
+    ensures names { result < 32 }
 {
-    match latency {
-        Some(latency) if reg != 0 => Some(Late { reg, latency }),
-        _ => None,
-    }
+    if latency_of(i.op).is_some() { i.rd } else { 0 }
 }
 
 /// Whether a word that means an instruction of a kind is no end of a program, and its act inner.
@@ -121,8 +121,8 @@ impl Prepared {
             kind,
             second,
             extended: extended_of(second, instr.imm),
+            late: u32::from(late_register(&instr)),
             fits_slot: belongs_into_slot(instr.op),
-            late: late_at(instr.rd, latency_of(instr.op)),
             is_inner: goes_on,
         }
     }

@@ -1,6 +1,6 @@
 //! Acts that ask nothing of the outside and retire.
 
-ghost use Rattle.std.specs.Prelude.{◌≡◌, ◌<◌, ℕ, List, Some, ◌+◌, ◌*◌, ◌^◌, ◌&&◌, ◌==◌, if◌then◌else◌, not, is_some, true, false, None};
+ghost use Rattle.std.specs.Prelude.{◌≡◌, ◌<◌, ℕ, List, Some, ◌+◌, ◌*◌, ◌^◌, ◌&&◌, ◌==◌, if◌then◌else◌, not, is_some, true, false, None, IfSome};
 ghost use Rattle.core_regs.specs.State.{bare, reg, with_reg};
 ghost use Rattle.delay_imm.specs.Slots.{advanced, branched, immediate_of};
 ghost use Rattle.mb_word.specs.Word.{bit_of};
@@ -16,6 +16,7 @@ ghost use Rattle.prepared_act.specs.Prepared.{is_inner};
 ghost use Rattle.prepared_act.specs.Retiring.{IsRetired, arch_after, Retires, RetiresWant, StaysUp, Suits, supplied, view_of};
 
 use crate::accessing::{leaves, loads, stores};
+use crate::flow::Flow;
 use crate::prepared::Prepared;
 use alu_units::{
     adder, barrel, compare, logic, multiply, pattern, pcmpeq, pcmpne, sext8, sext16, sra, src, srl,
@@ -155,75 +156,78 @@ fn branches(i: &Instr, a: &mut Arch, absolute: bool, delayed: bool, linked: bool
 
 /// The conditional branches.
 #[inline(always)]
-fn branches_if(i: &Instr, a: &mut Arch, delayed: bool, taken: bool, x: u32, y: u32)
+fn branches_if(i: &Instr, a: &mut Arch, delayed: bool, taken: bool, x: u32, y: u32) -> Flow
     ensures up { StaysUp a.old a.new }
-    ensures done { (m : List ℕ) → IsRetired (branches_if (supplied i.now x y a.old) (bare a.old) delayed taken) (view_of a.old m) (view_of a.new m) }
+    ensures done { (m : List ℕ) → IsRetired (branches_if (supplied i.now x y a.old) (bare a.old) delayed taken) result (view_of a.old m) (view_of a.new m) }
 {
     let here = a.pc;
     if taken {
         branch(a, here.wrapping_add(y), delayed);
+        Flow::Jumped
     } else if delayed {
         branch(a, here.wrapping_add(8), true);
+        Flow::On
     } else {
         advance(a, false);
+        Flow::On
     }
 }
 
 /// An instruction of an inner kind, by the values of rA and of the second operand. Nothing changes where it answers
-/// `false`.
+/// `None`.
 #[tactic(auto, unfolding(isa_step::specs::Wants::effect, isa_step::specs::Wants::deed_of))]
 #[inline(always)]
-fn retire_kind(kind: &Kind, i: &Instr, a: &mut Arch, m: &mut Memory, x: u32, y: u32) -> bool
+fn retire_kind(kind: &Kind, i: &Instr, a: &mut Arch, m: &mut Memory, x: u32, y: u32) -> Option<Flow>
     requires { i.now.rd < 32 }
-    ensures done { result ≡ true → RetiresWant (effect kind.now (supplied i.now x y a.old) (bare a.old) m.old) (view_of a.old m.old) (view_of a.new m.new) }
-    ensures arch { result ≡ false → a.new ≡ a.old }
-    ensures memory { result ≡ false → m.new ≡ m.old }
+    ensures done { IfSome result (λ flow. RetiresWant (effect kind.now (supplied i.now x y a.old) (bare a.old) m.old) flow (view_of a.old m.old) (view_of a.new m.new)) }
+    ensures arch { result ≡ None → a.new ≡ a.old }
+    ensures memory { result ≡ None → m.new ≡ m.old }
     ensures up { StaysUp a.old a.new }
 {
     match *kind {
         Kind::Add { carry, keep } => {
             adds(i, a, carry, keep, x, y);
-            true
+            Some(Flow::On)
         }
         Kind::Rsub { carry, keep } => {
             subtracts(i, a, carry, keep, x, y);
-            true
+            Some(Flow::On)
         }
         Kind::Compare { signed } => {
             leaves(i.rd, a, compare(x, y, signed));
-            true
+            Some(Flow::On)
         }
         Kind::Multiply(part) => {
             leaves(i.rd, a, multiply(x, y, part));
-            true
+            Some(Flow::On)
         }
         Kind::Shift(shift) => {
             leaves(i.rd, a, barrel(x, (y % 32) as u8, shift));
-            true
+            Some(Flow::On)
         }
         Kind::Logic(operation) => {
             leaves(i.rd, a, logic(x, y, operation));
-            true
+            Some(Flow::On)
         }
         Kind::FirstEqualByte => {
             leaves(i.rd, a, pattern(x, y));
-            true
+            Some(Flow::On)
         }
         Kind::IsEqual { wanted } => {
             leaves(i.rd, a, equality(x, y, wanted));
-            true
+            Some(Flow::On)
         }
         Kind::Return(Return::Subroutine) => {
             returns(i, a, x, y);
-            true
+            Some(Flow::Jumped)
         }
         Kind::ShiftByOne(top) => {
             shifts_by_one(i, a, top, x, y);
-            true
+            Some(Flow::On)
         }
         Kind::ExtendSign(part) => {
             leaves(i.rd, a, extends_sign(part, x));
-            true
+            Some(Flow::On)
         }
         Kind::Branch {
             absolute,
@@ -231,30 +235,29 @@ fn retire_kind(kind: &Kind, i: &Instr, a: &mut Arch, m: &mut Memory, x: u32, y: 
             linked,
         } => {
             branches(i, a, absolute, delayed, linked, x, y);
-            true
+            Some(Flow::Jumped)
         }
         Kind::BranchIf { condition, delayed } => {
-            branches_if(i, a, delayed, holds(condition, x), x, y);
-            true
+            Some(branches_if(i, a, delayed, holds(condition, x), x, y))
         }
         Kind::Prefix => {
             hold_prefix(a, i.imm);
-            true
+            Some(Flow::On)
         }
         Kind::Load(size) => loads(i, a, m, size, x, y),
         Kind::Store(size) => stores(i, a, m, size, x, y),
-        _ => false,
+        _ => None,
     }
 }
 
 /// An instruction of an inner kind in its place.
 #[inline(always)]
-fn retire_instr(q: &Prepared, a: &mut Arch, m: &mut Memory) -> bool
+fn retire_instr(q: &Prepared, a: &mut Arch, m: &mut Memory) -> Option<Flow>
     requires inner { is_inner (kind_of q.now.instr.op) ≡ true }
     requires fits { (is_some a.old.slot && not (belongs_into_slot q.now.kind)) ≡ false }
-    ensures done { result ≡ true → RetiresWant (wants_kind (kind_of q.now.instr.op) q.now.instr q.now.word (operands_by (Some q.now.instr) a.old.regs) (bare a.old) m.old) (view_of a.old m.old) (view_of a.new m.new) }
-    ensures arch { result ≡ false → a.new ≡ a.old }
-    ensures memory { result ≡ false → m.new ≡ m.old }
+    ensures done { IfSome result (λ flow. RetiresWant (wants_kind (kind_of q.now.instr.op) q.now.instr q.now.word (operands_by (Some q.now.instr) a.old.regs) (bare a.old) m.old) flow (view_of a.old m.old) (view_of a.new m.new)) }
+    ensures arch { result ≡ None → a.new ≡ a.old }
+    ensures memory { result ≡ None → m.new ≡ m.old }
     ensures up { StaysUp a.old a.new }
 {
     let x = a.get(q.instr.ra);
@@ -263,15 +266,15 @@ fn retire_instr(q: &Prepared, a: &mut Arch, m: &mut Memory) -> bool
 }
 
 /// Does the act of a core that runs and is awake at once, where it asks nothing of the outside and retires, and
-/// answers whether it did: nothing changes else. It is the act that is due where nothing is offered to the core.
+/// answers where it leads: nothing changes else. It is the act that is due where nothing is offered to the core.
 #[inline(always)]
-pub fn act_at_once(q: &Prepared, a: &mut Arch, m: &mut Memory) -> bool
+pub fn act_at_once(q: &Prepared, a: &mut Arch, m: &mut Memory) -> Option<Flow>
     requires suits { Suits q.now a.old }
     requires runs { a.old.stopped ≡ None }
     requires awake { a.old.asleep ≡ false }
-    ensures done { result ≡ true → Retires (met (Some q.now.word)) a.old m.old a.new m.new }
-    ensures arch { result ≡ false → a.new ≡ a.old }
-    ensures memory { result ≡ false → m.new ≡ m.old }
+    ensures done { IfSome result (λ flow. Retires (met (Some q.now.word)) a.old m.old flow a.new m.new) }
+    ensures arch { result ≡ None → a.new ≡ a.old }
+    ensures memory { result ≡ None → m.new ≡ m.old }
     ensures up { StaysUp a.old a.new }
 {
     retire_instr(q, a, m)
