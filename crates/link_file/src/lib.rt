@@ -13,8 +13,8 @@ mod file;
 mod law;
 
 pub use file::{fault_in, item_bytes, read_items};
-pub use law::{faults_break_files, files_are_read_back, files_hold_their_items};
 pub use host_io::NoMemory;
+pub use law::{faults_break_files, files_are_read_back, files_hold_their_items};
 
 #[cfg(test)]
 mod tests;

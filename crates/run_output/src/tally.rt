@@ -3,8 +3,8 @@ ghost use Rattle.std.specs.Prelude.{◌≡◌, ◌+◌, ◌≤◌, ◌<◌, IfOk
 ghost use Rattle.board_file.specs.declared.board.LinkRow.{LinkRow};
 ghost use Rattle.run_output.specs.Tally.{Covers, Few, Fit, HasByte, Reaches, ReachesAll, IsTally, cleared, counted, place_of, port_count, sent_of, taken_of};
 
-use host_io::NoMemory;
 use board_file::{End, LinkRow};
+use host_io::NoMemory;
 use run_journal::{Entry, What};
 use std::alloc::Global;
 use std::marker::Model;

@@ -2,8 +2,8 @@
 ghost use Rattle.std.specs.Prelude.{◌≡◌, ◌+◌, ◌-◌, ◌<◌, ◌≤◌, IfOk, [], get_or, length, replicate, set};
 ghost use Rattle.run_output.specs.Threads.{Lie, bare, head_of, headed, next_of, threaded};
 
-use host_io::NoMemory;
 use crate::pieces::Exit;
+use host_io::NoMemory;
 use run_journal::{Entry, What};
 use std::alloc::Global;
 use std::marker::Model;

@@ -15,8 +15,10 @@ pub tick_at_once-requires : goal.tick_at_once-requires
 tick_at_once-requires g c =
     let count : length (map (seen g.C.Core.state) c.args.cores.now) ≡ length c.args.cores.now = length-map c.args.cores.now (seen g.C.Core.state) in
     let core = get_or c.loop-k.cores c.loop-k.k c.index-cores-k.result in
-    record { young = ticks_ready (map (seen g.C.Core.state) c.args.cores.now) (map (seen g.C.Core.state) c.loop-k.cores) c.loop-k.k c.requires.ready (omega (arith, count, c.loop-k-test.true)) c.loop-k.invariant (core_of (g.C.Core.state core))
-        (slice_get_mapped (seen g.C.Core.state) c.loop-k.cores c.loop-k.k core (omega (arith, c.loop-k.auto.cores, c.loop-k-test.true)) (ap (get_or c.loop-k.cores c.loop-k.k) c.index-cores-k.is)) }
+    record {
+      young = ticks_ready (map (seen g.C.Core.state) c.args.cores.now) (map (seen g.C.Core.state) c.loop-k.cores) c.loop-k.k c.requires.ready (omega (arith, count, c.loop-k-test.true)) c.loop-k.invariant (core_of (g.C.Core.state core))
+          (slice_get_mapped (seen g.C.Core.state) c.loop-k.cores c.loop-k.k core (omega (arith, c.loop-k.auto.cores, c.loop-k-test.true)) (ap (get_or c.loop-k.cores c.loop-k.k) c.index-cores-k.is));
+    }
 
 pub returns-then-not-tick_at_once-clause-acted : goal.returns-then-not-tick_at_once-clause-acted
 returns-then-not-tick_at_once-clause-acted g c =

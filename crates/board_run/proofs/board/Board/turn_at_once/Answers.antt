@@ -15,7 +15,7 @@ returns-then-tick_at_once g c =
     let many : c.len.result ≡ length c.self.inside.clocks.items = omega (arith, c.len.ensures, c.self.inside.cores.ok.0, c.self.invariant.0) in
     let count : length c.args.self.now.cores ≡ length c.self.inside.cores.items = ap (λ (w : World). length w.cores) (sym c.self.view_is) ∙ length-map c.self.inside.cores.items (seen g.C.Core.state) in
     let turn : c.core_at-core.result ≡ core_at c.self.inside.turn (length c.self.inside.clocks.items) c.self.inside.wires.cycle c.args.k =
-        c.core_at-core.ensures.core ∙ ap (λ (n : ℕ). core_at c.self.inside.turn n c.number-cycle.result c.args.k) many ∙ ap (λ (cycle : ℕ). core_at c.self.inside.turn (length c.self.inside.clocks.items) cycle c.args.k) c.number-cycle.ensures in
+    c.core_at-core.ensures.core ∙ ap (λ (n : ℕ). core_at c.self.inside.turn n c.number-cycle.result c.args.k) many ∙ ap (λ (cycle : ℕ). core_at c.self.inside.turn (length c.self.inside.clocks.items) cycle c.args.k) c.number-cycle.ensures in
     let here : c.core_at-core.result ≡ core_of_turn c.args.self.now.schedule c.args.self.now.fabric.cycle c.args.k = subst (λ (w : World). c.core_at-core.result ≡ core_of_turn w.schedule w.fabric.cycle c.args.k) c.self.view_is turn in
     let there : c.core_at-core.result < length c.self.inside.clocks.items = omega (arith, c.core_at-core.ensures.there, many) in
     let at : slice_get c.args.self.now.schedule.clocks c.core_at-core.result ≡ Some c.index.result.now = subst (λ (w : World). slice_get w.schedule.clocks c.core_at-core.result ≡ Some c.index.result.now) c.self.view_is (slice_get_read c.self.inside.clocks.items (length c.self.inside.clocks.items) c.core_at-core.result c.index.result.now refl there c.index.ensures) in
