@@ -1,25 +1,22 @@
 -- Of a board that passed its tests a machine can be built, and its cores are new.
-use Rattle.std.proofs.Common.{◌≡◌, ℕ, zero, suc, All, Bool, true, false, if◌then◌else◌, List, [], ◌∷◌, ◌++◌, length, map, filter, fold, slice_get, Option, Some, None, refl, sym, ap, subst, ◌∙◌, arith}
-use Rattle.std.proofs.lemmas.List.{length-map}
-use Rattle.std.proofs.lemmas.List.Elements.{All-head, All-tail}
+use Rattle.std.proofs.Common.{◌≡◌, ℕ, ◌<◌, Bool, true, false, if◌then◌else◌, List, [], ◌∷◌, ◌++◌, map, fold, Option, Some, None, refl, sym, ap, subst, arith}
 use Rattle.std.specs.Cmp.Lexicographic.{slice_cmp}
 use Rattle.std.specs.Ordering.{is_lt, nat_cmp}
 use Rattle.board_file.specs.declared.board.BoardFile.{BoardFile}
 use Rattle.board_file.specs.declared.board.CoreRow.{CoreRow}
-use Rattle.board_file.specs.declared.board.Pipeline.{Pipeline}
-use Rattle.board_file.specs.declared.board.Pipeline.TheVariants.{Plain, Three, Five, Eight}
-use Rattle.board_run.specs.Boards.{AreNew, IsBuildable, IsNew, pipe_of}
+use Rattle.board_run.specs.Boards.{IsBuildable, IsNew, pipe_of}
 use Rattle.board_sound.proofs.Soundness.{read_is_sound}
 use Rattle.board_sound.specs.Sound.{IsSound}
 use Rattle.timing_law.specs.Past.{fresh as fresh_past}
-use Rattle.core_iface.specs.Cores.{CoreState}
-use Rattle.core_iface.specs.Plain.{plain_state}
-use Rattle.core_iface.specs.declared.plain.PlainCore.{PlainCore}
+use Rattle.core_iface.specs.Cores.{CoreState, made}
+use Rattle.core_regs.specs.declared.registers.Arch.{Arch}
+use Rattle.timing_law.specs.declared.pipe.Pipe.{Pipe}
+use Rattle.timing_law.specs.declared.pipe.Pipe.TheVariants as pipe
+use Rattle.any_core.specs.Any.{slack_of}
 use Rattle.host_io.specs.Outside.{Files}
 use Rattle.isa_step.specs.Deeds.{View}
-use Rattle.board_load.proofs.Rowwise.{IsFreshCore, view_seen}
-use Rattle.board_load.specs.Jobs.{AreCoresOf, Passes}
-use Rattle.board_load.specs.Unbuilt.{earlier, has_unbuilt, intc_place, is_unbuilt, not_yet, pipeline_place, timer_place, uart_place, unbuilt}
+use Rattle.board_load.specs.Jobs.{Passes}
+use Rattle.board_load.specs.Unbuilt.{earlier, intc_place, not_yet, timer_place, uart_place, unbuilt}
 
 -- no place was found
 
@@ -43,12 +40,11 @@ map_nil : {X Y : Type 0} (f : X → Y) (xs : List X) → map f xs ≡ [] → xs 
 map_nil f [] e = refl
 map_nil f (x ∷ xs) e = absurd (grind (arith, e))
 
--- no device and no other pipeline
+-- no device
 pub record IsBuilt (b : BoardFile) : Type 0 where
   pub timers : b.timers ≡ []
   pub intcs : b.intcs ≡ []
   pub uarts : b.uarts ≡ []
-  pub cores : filter has_unbuilt b.cores ≡ []
 
 pub is_built : (b : BoardFile) → not_yet b ≡ None → IsBuilt b
 unfolding not_yet unbuilt
@@ -56,34 +52,13 @@ is_built b e =
     let t = map timer_place b.timers in
     let i = map intc_place b.intcs in
     let u = map uart_place b.uarts in
-    let c = map pipeline_place (filter has_unbuilt b.cores) in
-    let all = both_nil (t ++ i ++ u) c (no_place None (t ++ i ++ u ++ c) e).1 in
-    let three = both_nil (t ++ i) u all.0 in
+    let three = both_nil (t ++ i) u (no_place None (t ++ i ++ u) e).1 in
     let two = both_nil t i three.0 in
     record {
       timers = map_nil timer_place b.timers two.0;
       intcs = map_nil intc_place b.intcs two.1;
       uarts = map_nil uart_place b.uarts three.1;
-      cores = map_nil pipeline_place (filter has_unbuilt b.cores) all.1;
     }
-
-is_plain : (p : Pipeline) → is_unbuilt p ≡ false → p ≡ Plain
-is_plain Plain e = refl
-is_plain Three e = absurd (grind (arith, e))
-is_plain Five e = absurd (grind (arith, e))
-is_plain Eight e = absurd (grind (arith, e))
-
-left_out : (unbuilt : Bool) (row : CoreRow) (rows : List CoreRow) → (if unbuilt then row ∷ rows else rows) ≡ [] → (unbuilt ≡ false) × (rows ≡ [])
-left_out true row rows e = absurd (grind (arith, e))
-left_out false row rows e = (refl, e)
-
-pub all_plain : (rows : List CoreRow) → filter has_unbuilt rows ≡ [] → (k : ℕ) (row : CoreRow) → slice_get rows k ≡ Some row → row.pipeline ≡ Plain
-all_plain [] e k row at = absurd (grind (arith, at))
-all_plain (r ∷ rows) e zero row at =
-    let same : r ≡ row = grind (arith, at) in
-    let P : CoreRow → Type 0 = λ x. x.pipeline ≡ Plain in
-    subst P same (is_plain r.pipeline (left_out (has_unbuilt r) r (filter has_unbuilt rows) e).0)
-all_plain (r ∷ rows) e (suc k) row at = all_plain rows (left_out (has_unbuilt r) r (filter has_unbuilt rows) e).1 k row at
 
 -- the board can be built
 pub buildable : (files : Option Files) (file : List ℕ) (journal : Option (List ℕ)) (b : BoardFile) → Passes files file journal b → IsBuildable b
@@ -102,35 +77,18 @@ buildable files file journal b passes =
       no_uarts = built.uarts;
     }
 
--- its cores are new
-new_core : (row : CoreRow) (core : PlainCore) → IsFreshCore core → row.pipeline ≡ Plain → IsNew row (plain_state core)
-new_core row core fresh plain =
-    record {
-      acts = ap (λ (s : CoreState). s.acts) fresh;
-      ticks = ap (λ (s : CoreState). s.ticks) fresh;
-      slack = omega arith;
-      flights = refl;
-      past = ap (λ (s : CoreState). s.past) fresh ∙ sym (ap (λ p. fresh_past (pipe_of p)) plain);
-    }
+-- a core is new
+few_slack : (p : Pipe) → slack_of p < 64
+few_slack pipe.Plain = omega arith
+few_slack pipe.Three = omega arith
+few_slack pipe.Five = omega arith
+few_slack pipe.Eight = omega arith
 
-new_at : (cores : List PlainCore) (k : ℕ) (row : CoreRow) (s : CoreState) → All IsFreshCore cores → row.pipeline ≡ Plain
-    → slice_get (map plain_state cores) k ≡ Some s → IsNew row s
-new_at [] k row s fresh plain at = absurd (grind (arith, at))
-new_at (c ∷ cs) zero row s fresh plain at =
-    let same : plain_state c ≡ s = grind (arith, at) in
-    subst (IsNew row) same (new_core row c (All-head IsFreshCore c cs fresh) plain)
-new_at (c ∷ cs) (suc k) row s fresh plain at = new_at cs k row s (All-tail IsFreshCore c cs fresh) plain at
-
-same_count : (files : Option Files) (network : Bool) (rows : List CoreRow) (views : List View) → AreCoresOf files network rows views → length views ≡ length rows
-same_count files network [] [] h = refl
-same_count files network (row ∷ rows) (view ∷ views) (h, hs) = ap suc (same_count files network rows views hs)
-same_count files network [] (view ∷ views) h = elim h [ ]
-same_count files network (row ∷ rows) [] h = elim h [ ]
-
-pub are_new : (files inside : Option Files) (file : List ℕ) (journal : Option (List ℕ)) (b : BoardFile) (rows : List CoreRow) (cores : List PlainCore) → Passes files file journal b
-    → rows ≡ b.cores → AreCoresOf inside b.network rows (map view_seen cores) → All IsFreshCore cores → AreNew b.cores (map plain_state cores)
-are_new files inside file journal b rows cores passes seen loaded fresh =
-    record {
-      count = length-map cores plain_state ∙ sym (length-map cores view_seen) ∙ same_count inside b.network rows (map view_seen cores) loaded ∙ ap length seen;
-      each = λ k row s of at. new_at cores k row s fresh (all_plain b.cores (is_built b passes.is_built).cores k row of) at;
-    }
+pub begun_is_new : (row : CoreRow) (p : Pipe) (arch : Arch) (memory : List ℕ) (s : CoreState) → p ≡ pipe_of row.pipeline → s ≡ made p (slack_of p) arch memory → IsNew row s
+begun_is_new row p arch memory s same e = subst (IsNew row) (sym e) (record {
+  acts = refl;
+  ticks = refl;
+  slack = few_slack p;
+  flights = refl;
+  past = ap fresh_past same;
+})

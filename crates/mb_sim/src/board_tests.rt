@@ -437,6 +437,74 @@ link y sent 0 taken 0
     check(&rt, rt.alloc(), &chain)
 }
 
+/// The loads on each pipeline, with the cycles that they take.
+const CHAINS: [(&str, &str); 3] = [
+    (
+        "\ncore.a = {image = 'a.elf', pipeline = 'three'}\n",
+        "status 0 cycles 22 entries 0\ncore a ended pc 0000002C acts 11\n",
+    ),
+    (
+        "\ncore.a = {image = 'a.elf', pipeline = 'five'}\n",
+        "status 0 cycles 23 entries 0\ncore a ended pc 0000002C acts 11\n",
+    ),
+    (
+        "\ncore.a = {image = 'a.elf', pipeline = 'eight'}\n",
+        "status 0 cycles 50 entries 0\ncore a ended pc 0000002C acts 11\n",
+    ),
+];
+
+/// 7 is stored over the word after the next one, which then sends it.
+const PATCHED: &str = "B0003080 30600007 F8600010 80000000 30800001 6C048000 B8000000";
+
+/// The same with a link to the file `out`.
+const PATCHES: [(&str, &str); 3] = [
+    (
+        "
+core.a = {image = 'a.elf', pipeline = 'three'}
+link.y = {depth = 1, from = 'a', from_port = 0, to_file = 'out'}
+",
+        "status 0 cycles 11 entries 2\ncore a ended pc 00000018 acts 6\nlink y sent 1 taken 1\n",
+    ),
+    (
+        "
+core.a = {image = 'a.elf', pipeline = 'five'}
+link.y = {depth = 1, from = 'a', from_port = 0, to_file = 'out'}
+",
+        "status 0 cycles 13 entries 2\ncore a ended pc 00000018 acts 6\nlink y sent 1 taken 1\n",
+    ),
+    (
+        "
+core.a = {image = 'a.elf', pipeline = 'eight'}
+link.y = {depth = 1, from = 'a', from_port = 0, to_file = 'out'}
+",
+        "status 0 cycles 13 entries 2\ncore a ended pc 00000018 acts 6\nlink y sent 1 taken 1\n",
+    ),
+];
+
+#[test]
+fn each_pipeline_keeps_its_time(rt: HostRuntime) -> Result<(), Fail> {
+    for (parts, printed) in CHAINS {
+        let row = Row {
+            parts,
+            images: [LOAD_CHAIN, ""],
+            printed,
+            left: [None, None],
+            ..Row::relay()
+        };
+        check(&rt, rt.alloc(), &row)?;
+    }
+    for (parts, printed) in PATCHES {
+        let row = Row {
+            parts,
+            images: [PATCHED, ""],
+            printed,
+            ..Row::relay()
+        };
+        check(&rt, rt.alloc(), &row)?;
+    }
+    Ok(())
+}
+
 #[test]
 fn what_is_refused_changes_nothing(rt: HostRuntime) -> Result<(), Fail> {
     let rows = [
@@ -492,9 +560,12 @@ fn what_is_refused_changes_nothing(rt: HostRuntime) -> Result<(), Fail> {
         },
         // No image is loaded before.
         Row {
-            parts: "\ncore.a = {image = 'a.elf', pipeline = 'five'}\n",
+            parts: "
+core.a = {image = 'a.elf', pipeline = 'five'}
+timer.t = {core = 'a', base = 65536}
+",
             images: ["", ""],
-            told: "mbsim: not built at core.a.pipeline\n",
+            told: "mbsim: not built at timer.t\n",
             ..Row::refused(17)
         },
     ];

@@ -7,16 +7,17 @@ ghost use Rattle.mb_sim.specs.Top.{CountsLoads, CountsWrites, HasRunTo, Refuses,
 use crate::print::print_items;
 use crate::runs::status_of;
 use crate::status::Status;
+use any_core::AnyCore;
 use board_file::{
     BoardFile, CoreRow, Cores, End, Events, Intcs, LinkRow, Links, Pipeline, Timers, Turn, Uarts,
 };
 use board_run::{Board, Inputs, RunEnd};
 use byte_mem::Memory;
-use core_iface::PlainCore;
 use core_regs::{Arch, Order};
 use host_io::{Blobs, FileName, LoadFault, Name, Shelf, Sink, StoreFault};
 use probe_set::ProbeSet;
 use std::alloc::Global;
+use timing_law::Pipe;
 
 /// The bytes of the core's memory.
 const MEMORY: usize = 65_536;
@@ -28,7 +29,7 @@ const ENTRIES: usize = 1_048_576;
 #[derive(Drop)]
 struct Ran {
     end: RunEnd,
-    board: Board<PlainCore>,
+    board: Board<AnyCore>,
 }
 
 /// Runs a file as an image at 0, and prints the items that left.
@@ -109,14 +110,14 @@ fn run_image(
 }
 
 /// The board with an image before its first event; `None` for want of memory.
-fn board_with(alloc: Global, file: &FileName, image: &[u8]) -> Option<Board<PlainCore>>
+fn board_with(alloc: Global, file: &FileName, image: &[u8]) -> Option<Board<AnyCore>>
     requires fits { length image.now ≤ 65_536 }
     ensures { IfSome result (IsRawStart file.now image.now) }
 {
     let memory = memory_with(alloc, image)?;
     let mut cores = Vec::new(alloc);
     cores
-        .push(PlainCore::new(memory, Arch::fresh(0, Order::Big, false)))
+        .push(AnyCore::new(Pipe::Plain, memory, Arch::fresh(0, Order::Big, false)))
         .ok()?;
     let inputs = Inputs {
         links: Blobs::from_vec(Vec::new(alloc)),

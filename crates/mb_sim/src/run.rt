@@ -1,6 +1,6 @@
 //! `run`: a board with its images and input files, to its output files, journal and report.
 ghost use Rattle.std.specs.Prelude.{◌≡◌, ◌≤◌, IfSome, Ok, codes, length, map, slice_get};
-ghost use Rattle.core_iface.specs.Plain.{plain_state};
+ghost use Rattle.any_core.specs.States.{any_state};
 ghost use Rattle.board_machine.specs.Cycles.{CanRun};
 ghost use Rattle.board_machine.specs.World.{Start};
 ghost use Rattle.board_run.specs.Boards.{AreNew, IsBuildable};
@@ -10,9 +10,10 @@ ghost use Rattle.mb_sim.specs.Top.{CountsLoads, CountsWrites};
 use crate::raw::output;
 use crate::runs::status_of;
 use crate::status::Status;
+use any_core::AnyCore;
 use board_load::{Job, Refusal, load_job};
 use board_run::{Board, RunEnd};
-use core_iface::{Core, PlainCore};
+use core_iface::Core;
 use host_io::{FileName, Shelf, Sink, StoreFault};
 use probe_set::ProbeSet;
 use run_output::{CoreEnd, CoreEnds, OutputFault, Outputs};
@@ -34,14 +35,14 @@ pub struct RunWords {
 /// A board before its first event, and the memory for what its run puts out.
 #[derive(Drop)]
 struct Ready {
-    board: Board<PlainCore>,
+    board: Board<AnyCore>,
     outputs: Outputs,
 }
 
 /// How the cores of a board stand.
 #[derive(Clone, Copy)]
 struct BoardEnds<'a> {
-    board: &'a Board<PlainCore>,
+    board: &'a Board<AnyCore>,
 }
 
 impl CoreEnds for BoardEnds<'_> {
@@ -108,10 +109,10 @@ fn status_of_refusal(refusal: Refusal) -> Status
 
 /// Takes all the memory that the run needs; `None` for want of it.
 fn make_ready(alloc: Global, job: Job, entries: u32) -> Option<Ready>
-    requires new { AreNew job.board.cores (map plain_state job.cores.items) }
+    requires new { AreNew job.board.cores (map any_state job.cores.items) }
     requires buildable { IsBuildable job.board }
     ensures file { IfSome result (λ r. r.outputs ≡ job.board) }
-    ensures start { IfSome result (λ r. Start job.board (map (λ core. (plain_state core).view) job.cores.items) job.inputs.links r.board) }
+    ensures start { IfSome result (λ r. Start job.board (map (λ core. (any_state core).view) job.cores.items) job.inputs.links r.board) }
     ensures room { IfSome result (λ r. r.board.fabric.spare ≡ entries) }
 {
     let Job {
@@ -175,7 +176,7 @@ fn status_of_output(fault: OutputFault) -> Status
 fn print<O: Sink>(
     alloc: Global,
     outputs: &mut Outputs,
-    board: &Board<PlainCore>,
+    board: &Board<AnyCore>,
     end: RunEnd,
     out: &mut O,
 ) -> Status

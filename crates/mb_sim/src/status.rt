@@ -33,7 +33,7 @@ pub enum Status {
     BadInput { file: FileName, offset: u32 },
     /// The file is longer than its limit.
     TooLong { file: FileName },
-    /// The board has a device, or a core with a pipeline, that can't be run yet: its place in the board file.
+    /// The board has a device, and none can be run yet: its place in the board file.
     NotYet { place: Place },
 }
 

@@ -1,0 +1,6 @@
+pub mod FlightLemmas
+pub mod WordLemmas
+pub mod ClockLemmas
+pub mod StagedTurns
+pub mod Turns
+pub mod Depths

@@ -1,0 +1,91 @@
+-- Words that were fetched are words of memory.
+use Rattle.std.proofs.Common.{ℕ, zero, suc, ◌≡◌, ◌<◌, ◌≤◌, ◌+◌, ◌-◌, ◌==◌, ◌&&◌, ◌||◌, nat_le, nat_lt, Bool, true, false, List, [], ◌∷◌, ◌++◌, Some, refl, sym, ap, subst, ◌∙◌, arith, take, drop, slice_get, slice_range, ◌⊎◌, inl, inr}
+use Rattle.std.specs.List.{find, list_any}
+use Rattle.core_regs.specs.declared.causes.Order.{Order}
+use Rattle.core_regs.specs.declared.causes.Size.{Size}
+use Rattle.core_regs.specs.declared.causes.Size.TheVariants.{Byte, Half, Word}
+use Rattle.byte_mem.specs.Access.{bytes_of, loaded, stored}
+use Rattle.byte_mem.proofs.Storing.{length_stored, stored_elsewhere}
+use Rattle.isa_step.specs.declared.acts.Store.{Store}
+use Rattle.pipe_latch.specs.declared.fetching.Fetched.{Fetched}
+use Rattle.pipe_latch.specs.Latches.{AreWords, holds_at}
+
+pub words_more : (m : List ℕ) (order : Order) (fs : List Fetched) (f : Fetched) → AreWords m order fs → loaded m Word order f.addr ≡ Some f.word → AreWords m order (fs ++ f ∷ [])
+words_more m order [] f h is = (is, tt)
+words_more m order (g ∷ fs) f h is = (h.0, words_more m order fs f h.1 is)
+
+found_in : (m : List ℕ) (order : Order) (a : ℕ) (f g : Fetched) (fs : List Fetched) (t : Bool) → (g.addr == a) ≡ t → (find (λ (f : Fetched). f.addr == a) fs ≡ Some f → loaded m Word order a ≡ Some f.word)
+    → loaded m Word order g.addr ≡ Some g.word → find (λ (f : Fetched). f.addr == a) (g ∷ fs) ≡ Some f → loaded m Word order a ≡ Some f.word
+found_in m order a f g fs true is later word h = grind (arith, is, word, h)
+found_in m order a f g fs false is later word h = later (grind (arith, is, h))
+
+pub found_word : (m : List ℕ) (order : Order) (a : ℕ) (f : Fetched) (fs : List Fetched) → AreWords m order fs → find (λ (f : Fetched). f.addr == a) fs ≡ Some f → loaded m Word order a ≡ Some f.word
+found_word m order a f [] h is = cc
+found_word m order a f (g ∷ fs) h is = found_in m order a f g fs _ refl (found_word m order a f fs h.1) h.0 is
+
+-- a part of a list by its items
+take_same : (n : ℕ) (xs ys : List ℕ) → ((k : ℕ) → k < n → slice_get xs k ≡ slice_get ys k) → take n xs ≡ take n ys
+take_same zero xs ys same = refl
+take_same (suc n) [] [] same = refl
+take_same (suc n) [] (y ∷ ys) same = let e = same 0 (omega arith) in cc
+take_same (suc n) (x ∷ xs) [] same = let e = same 0 (omega arith) in cc
+take_same (suc n) (x ∷ xs) (y ∷ ys) same =
+    let first : x ≡ y = let e = same 0 (omega arith) in cc in
+    rw (first, take_same n xs ys (λ k lt. same (suc k) (omega (arith, lt)))) refl
+
+get_drop : (a k : ℕ) (xs : List ℕ) → slice_get (drop a xs) k ≡ slice_get xs (a + k)
+get_drop zero k xs = let e : k ≡ 0 + k = omega arith in ap (λ n. slice_get xs n) e
+get_drop (suc a) k [] = refl
+get_drop (suc a) k (x ∷ xs) = let e : suc (a + k) ≡ suc a + k = omega arith in subst (λ n. slice_get (drop a xs) k ≡ slice_get (x ∷ xs) n) e (get_drop a k xs)
+
+range_same : (xs ys : List ℕ) (a n : ℕ) → ((k : ℕ) → k < n → slice_get xs (a + k) ≡ slice_get ys (a + k)) → slice_range xs a (a + n) ≡ slice_range ys a (a + n)
+range_same xs ys a n same =
+    let size : (a + n) - a ≡ n = omega arith in
+    rw size (take_same n (drop a xs) (drop a ys) (λ k lt. get_drop a k xs ∙ same k lt ∙ sym (get_drop a k ys)))
+
+few_bytes : (size : Size) → bytes_of size ≤ 4
+few_bytes Byte = omega arith
+few_bytes Half = omega arith
+few_bytes Word = omega arith
+
+-- a load of a word that a store did not touch
+load_kept : (m : List ℕ) (size : Size) (order other : Order) (addr value a : ℕ) → (a + 4 ≤ addr) ⊎ (addr + bytes_of size ≤ a)
+    → loaded (stored m size order addr value) Word other a ≡ loaded m Word other a
+unfolding loaded
+load_kept m size order other addr value a far =
+    let range : slice_range (stored m size order addr value) a (a + 4) ≡ slice_range m a (a + 4)
+    = range_same (stored m size order addr value) m a 4 (λ k lt. stored_elsewhere m size order addr value (a + k) (byte_apart far k lt)) in
+    rw (length_stored m size order addr value, range) refl
+  where
+    byte_apart : (a + 4 ≤ addr) ⊎ (addr + bytes_of size ≤ a) → (k : ℕ) → k < 4 → ((a + k) < addr) ⊎ (addr + bytes_of size ≤ a + k)
+    byte_apart (inl le) k lt = inl (omega (arith, le, lt))
+    byte_apart (inr le) k lt = inr (omega (arith, le))
+
+or_left : (b c : Bool) → (b || c) ≡ false → b ≡ false
+or_left true c h = cc
+or_left false c h = refl
+
+or_right : (b c : Bool) → (b || c) ≡ false → c ≡ false
+or_right true c h = cc
+or_right false c h = h
+
+-- four bytes whose first and last lie in no word touch none
+far_by : (a addr : ℕ) (t : Bool) → nat_le a addr ≡ t → (t && nat_lt addr (a + 4)) ≡ false → (nat_le a (addr + 3) && nat_lt (addr + 3) (a + 4)) ≡ false → (a + 4 ≤ addr) ⊎ (addr + 4 ≤ a)
+far_by a addr true is first last = inl (grind (arith, first))
+far_by a addr false is first last = inr (grind (arith, is, last))
+
+far : (size : Size) (addr a : ℕ) → (a + 4 ≤ addr) ⊎ (addr + 4 ≤ a) → (a + 4 ≤ addr) ⊎ (addr + bytes_of size ≤ a)
+far size addr a (inl le) = inl le
+far size addr a (inr le) = let few = few_bytes size in inr (omega (arith, le, few))
+
+pub words_kept : (m : List ℕ) (s : Store) (order other : Order) (fs : List Fetched)
+    → (list_any (holds_at s.addr) fs || list_any (holds_at (s.addr + 3)) fs) ≡ false → AreWords m other fs → AreWords (stored m s.size order s.addr s.word) other fs
+words_kept m s order other fs none h = each fs (or_left (list_any (holds_at s.addr) fs) _ none) (or_right (list_any (holds_at s.addr) fs) _ none) h
+  where
+    each : (fs : List Fetched) → list_any (holds_at s.addr) fs ≡ false → list_any (holds_at (s.addr + 3)) fs ≡ false → AreWords m other fs → AreWords (stored m s.size order s.addr s.word) other fs
+    each [] first last h = tt
+    each (f ∷ fs) first last h = (
+      load_kept m s.size order other s.addr s.word f.addr
+          (far s.size s.addr f.addr (far_by f.addr s.addr _ refl (or_left (holds_at s.addr f) _ first) (or_left (holds_at (s.addr + 3) f) _ last))) ∙ h.0,
+      each fs (or_right (holds_at s.addr f) _ first) (or_right (holds_at (s.addr + 3) f) _ last) h.1,
+    )

@@ -1,0 +1,27 @@
+-- Results in flight, and words that were fetched.
+use Rattle.std.specs.Prelude.{ℕ, ◌≡◌, ◌<◌, ◌≤◌, ◌==◌, ◌+◌, ◌&&◌, nat_le, nat_lt, Bool, List, [], ◌∷◌, reverse, Option, Some}
+use Rattle.std.specs.Option.{option_map}
+use Rattle.std.specs.List.{find}
+use Rattle.core_regs.specs.declared.causes.Order.{Order}
+use Rattle.core_regs.specs.declared.causes.Size.TheVariants.{Word}
+use Rattle.byte_mem.specs.Access.{loaded}
+use Rattle.core_iface.specs.declared.Flight.{Flight}
+use Rattle.pipe_latch.specs.declared.fetching.Fetched.{Fetched}
+
+-- the value of the youngest flight that writes the register
+abbrev pub youngest : List Flight → ℕ → Option ℕ
+youngest fs n = option_map (λ (f : Flight). f.value) (find (λ (f : Flight). f.reg == n) (reverse fs))
+
+-- flights name registers, and their ages fall from the oldest on
+abbrev pub InFlight : ℕ → ℕ → List Flight → Type 0
+InFlight low high [] = low ≤ high
+InFlight low high (f ∷ fs) = (f.reg < 32) × (f.age < high) × InFlight low f.age fs
+
+-- each word that is kept is the word of memory at its address
+abbrev pub AreWords : List ℕ → Order → List Fetched → Type 0
+AreWords m order [] = Unit {0}
+AreWords m order (f ∷ fs) = (loaded m Word order f.addr ≡ Some f.word) × AreWords m order fs
+
+-- an address lies in a word that was fetched
+abbrev pub holds_at : ℕ → Fetched → Bool
+holds_at addr f = nat_le f.addr addr && nat_lt addr (f.addr + 4)

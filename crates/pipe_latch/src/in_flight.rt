@@ -1,0 +1,128 @@
+//! Results that are not yet in the register file.
+
+ghost use Rattle.std.specs.Prelude.{◌≡◌, ℕ, ◌<◌, ◌≤◌, ◌+◌, [], ◌∷◌, ◌++◌, IfSome, filter};
+ghost use Rattle.arrayvec.specs.ArrayVec.{array_vec_len};
+ghost use Rattle.core_regs.specs.State.{reg};
+ghost use Rattle.std.specs.List.{list_any};
+ghost use Rattle.mb_decode.specs.Meaning.{NamesRegisters};
+ghost use Rattle.mb_decode.specs.Registers.{reads};
+ghost use Rattle.isa_step.specs.Wants.{operands_of};
+ghost use Rattle.core_iface.specs.Flights.{applied, begun, flights_aged, file_aged, older, has_landed, still_flies};
+ghost use Rattle.pipe_latch.specs.Latches.{InFlight, youngest};
+
+use arrayvec::ArrayVec;
+use core_iface::Flight;
+use core_regs::Write;
+use isa_step::{Here, Operands};
+use mb_decode::Instr;
+
+/// The results in flight, the oldest first.
+#[derive(Drop)]
+pub struct Flights {
+    pub items: ArrayVec<Flight, 8>,
+}
+
+/// A result grows older: it is written to the register file, or flies on.
+fn pass_tick(flight: Flight, depth: u8, file: &mut [u32; 32], later: &mut Flights)
+    requires flight { (flight.reg < 32) × (flight.age < 7) }
+    requires room { array_vec_len later.old.items < 8 }
+    ensures later { later.new.items.items ≡ later.old.items.items ++ filter (still_flies depth) (older flight ∷ []) }
+    ensures file { file.new ≡ applied (filter (has_landed depth) (older flight ∷ [])) file.old }
+    ensures room { array_vec_len later.new.items ≤ array_vec_len later.old.items + 1 }
+{
+    let age = flight.age + 1;
+    if age == depth {
+        file[flight.reg as usize] = flight.value;
+    } else {
+        later.items.push(Flight { age, ..flight });
+    }
+}
+
+impl Flights {
+    /// No result is in flight.
+    pub fn new() -> Flights
+        ensures { result.items.items ≡ [] }
+    {
+        Flights {
+            items: ArrayVec::new(),
+        }
+    }
+
+    /// The value of the youngest result for a register.
+    pub fn forward(&self, reg: u8) -> Option<u32>
+        ensures { result ≡ youngest self.now.items.items reg }
+    {
+        match self.items.iter().rev().find(|flight| flight.reg == reg) {
+            Some(flight) => Some(flight.value),
+            None => None,
+        }
+    }
+
+    /// Whether an instruction reads a register that a result in flight is for.
+    pub fn blocked(&self, i: &Instr) -> bool
+        ensures { result ≡ list_any (λ f. reads i.now f.reg) self.now.items.items }
+    {
+        self.items.iter().any(|flight| i.reads(flight.reg))
+    }
+
+    /// The value of a register, by its youngest result or the register file.
+    #[tactic(auto, using(crate::proofs::FlightLemmas::read_youngest, crate::proofs::FlightLemmas::read_file))]
+    pub fn read(&self, file: &[u32; 32], n: u8) -> u32
+        requires { n < 32 }
+        ensures { result ≡ reg (applied self.now.items.items file.now) n }
+    {
+        if n == 0 {
+            return 0;
+        }
+        match self.forward(n) {
+            Some(value) => value,
+            None => file[n as usize],
+        }
+    }
+
+    /// The operands of the instruction at pc.
+    pub fn operands(&self, file: &[u32; 32], here: &Option<Here>) -> Operands
+        requires { IfSome here.now (λ here. IfSome here.instr NamesRegisters) }
+        ensures { result ≡ operands_of here.now (applied self.now.items.items file.now) }
+    {
+        match here {
+            Some(Here { instr: Some(i), .. }) => Operands {
+                a: self.read(file, i.ra),
+                b: self.read(file, i.rb),
+                d: self.read(file, i.rd),
+            },
+            _ => Operands { a: 0, b: 0, d: 0 },
+        }
+    }
+
+    /// Each result grows older, and those that reach the depth are written to the register file.
+    #[tactic(auto, using(crate::proofs::FlightLemmas::flights_none, crate::proofs::FlightLemmas::file_none))]
+    pub fn advance(&mut self, depth: u8, file: &mut [u32; 32])
+        requires depth { (1 ≤ depth) × (depth ≤ 7) }
+        requires ages { InFlight 0 depth self.old.items.items }
+        ensures flights { self.new.items.items ≡ flights_aged depth self.old.items.items }
+        ensures file { file.new ≡ file_aged depth self.old.items.items file.old }
+        ensures ages { InFlight 1 depth self.new.items.items }
+        ensures room { array_vec_len self.new.items < 8 }
+    {
+        let mut later = Flights::new();
+        for flight in self.items.iter() {
+            pass_tick(*flight, depth, file, &mut later);
+        }
+        self.items = later.items;
+    }
+
+    /// A result begins its flight.
+    pub fn begin(&mut self, write: Option<Write>)
+        requires { array_vec_len self.old.items < 8 }
+        ensures { self.new.items.items ≡ self.old.items.items ++ begun write }
+    {
+        if let Some(write) = write {
+            self.items.push(Flight {
+                reg: write.reg,
+                value: write.value,
+                age: 0,
+            });
+        }
+    }
+}
