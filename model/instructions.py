@@ -17,6 +17,7 @@ MASKS = {
 FIELDS = {form: fields.split() for form, fields in {
     "A": "rD rA rB", "U": "rD rA", "B": "rD rA", "S": "rD rA", "R": "rB", "RL": "rD rB", "I": "", "IL": "rD", "CR": "rA rB",
     "CI": "rA", "M": "rD", "T": "rA", "E": "rD", "G": "rD", "P": "rA", "GD": "rD rB", "PD": "rA rB"}.items()}
+SHIFTS = {"rD": 21, "rA": 16, "rB": 11}
 IMMEDIATE = {"B", "I", "IL", "CI"}
 
 

@@ -5,7 +5,7 @@ a latch or a counter. A tick is one chance of a core to act; its ticks are numbe
 """
 import dataclasses
 
-from instructions import FIELDS
+from instructions import FIELDS, SHIFTS
 
 PIPELINES = ("plain", "three", "five", "eight")
 BUILT = ("plain", "three")  # those that the program has; a board with another one is refused with status 17
@@ -52,9 +52,8 @@ def on(pipeline, row):
 def reads(name, form, word):
     """The registers that an instruction reads: what the fields rA and rB of its form name, and what a store's rD names.
     Whether the effect needs them doesn't count."""
-    at = {"rD": word >> 21 & 31, "rA": word >> 16 & 31, "rB": word >> 11 & 31}
     fields = [field for field in FIELDS[form] if field != "rD" or name in STORES]
-    return {at[field] for field in fields} - {0}
+    return {word >> SHIFTS[field] & 31 for field in fields} - {0}
 
 
 def hold_of(act, pipeline):
