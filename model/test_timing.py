@@ -1,11 +1,13 @@
 #!/usr/bin/env python3
 """Tests the model of time by runs whose ticks were worked out by hand from the table of times."""
 import random
+import re
 
 import board
 import core
 import elf
 import timing
+from program import TOP
 from test_board import END, RELAY, check, relay_text, run
 
 PLAIN, THREE, FIVE, EIGHT = timing.PIPELINES
@@ -15,6 +17,9 @@ LOOP = [0x30600003, 0x3063FFFF, 0xBC23FFFC, END]  # r3 counted down from 3
 PATCH = [0xB0003080, 0x30600007, 0xF8600010, 0x80000000, 0x30800001, 0x6C048000, END]  # stores addik r4, r0, 7 over the word at 10
 SHIFTS = [0x30600001, 0x64630401, 0x64630401, END]  # r3 shifted left twice
 LAST_VALUE = [0x30600001, 0x30600002, 0x6C038000, END]  # two values of r3, and a put
+# the program of docs/PIPELINES.md, with the word 5 at 28 hex
+TICK_BY_TICK = [0xE8600028, 0x30830001, 0x64A40402, 0xF8A00030, 0xB810000C, 0x30C50001, 0x30C00000, 0x6C068000, END, 0, 5]
+DOCUMENT = TOP / "docs/PIPELINES.md"
 
 
 class Alone:
@@ -142,6 +147,22 @@ def relay():
             check(f"relay of {first} and {second}", (done.status, done.files["out"]), (0, bytes([0, 0, 0, 0, 7])))
 
 
+def document():
+    """The table of docs/PIPELINES.md is the model's, and so are the ticks of its program."""
+    rows = [tuple(map(int, row)) for row in re.findall(r"^\|.+" + 4 * r"\| (\d+) " + r"\|$", DOCUMENT.read_text(), re.MULTILINE)]
+    check("the table", rows, [
+        timing.FIRST_TICK, timing.HOLD_OF_LOADS_AND_STORES, timing.HOLD_OF_OTHERS, timing.READY_OF_LOADS_AND_GETS,
+        timing.READY_OF_MULTIPLY_AND_BARREL, timing.READY_OF_OTHERS, timing.EXTRA_OF_DIVIDES, timing.REDIRECT_AFTER_A_BRANCH,
+        timing.REDIRECT_AFTER_A_TRAP_OR_STRIKE])
+    charts = re.findall(r"^    (plain|three|five|eight) +((?: *[A-Gshord])+)$", DOCUMENT.read_text(), re.MULTILINE)
+    check("its charts", [pipeline for pipeline, _ in charts], list(timing.PIPELINES))
+    for pipeline, chart in charts:
+        done = Alone(pipeline, TICK_BY_TICK)
+        acts, waited = iter("ABCDEFG"), iter(done.waited)
+        ticks = [next(acts) if tick in done.acted_in else next(waited)[0] for tick in range(done.acted_in[-1] + 1)]
+        check(f"the program tick by tick on {pipeline}", (chart.split(), done.items), (ticks, [25]))
+
+
 def old_acts():
     """The last `REACH` acts give what all of them give."""
     chance = random.Random(1)
@@ -157,7 +178,7 @@ def old_acts():
 
 
 def main():
-    for test in (cycles, results, reasons, two_loads, missed_gets, due_ticks, operands, deferred_breaks, takes, relay, old_acts):
+    for test in (cycles, results, reasons, two_loads, missed_gets, due_ticks, operands, deferred_breaks, takes, relay, document, old_acts):
         test()
     print("timing model: all worked runs agree")
 
