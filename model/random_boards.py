@@ -5,6 +5,7 @@ Each is a function of its seed.
 import json
 import pathlib
 import random
+import re
 
 import board
 import core
@@ -201,11 +202,11 @@ def random_links(chance, names):
     return tables, ports
 
 
-def random_board(seed, folder):
+def random_board(seed, folder, network=None):
     """Writes a board with its images and inputs, mostly with pipelines mixed; answers the words to run it with."""
     chance = random.Random(seed)
     names = chance.sample(["a", "b_1", "c9", "zz", "m", "_q"], chance.randrange(1, 5))
-    network = chance.random() < 0.25
+    network = chance.random() < 0.25 if network is None else network
     tables, ports = random_links(chance, names)
     mix = chance.choice((timing.BUILT, timing.BUILT, timing.BUILT[:1], timing.BUILT[1:]))
     for name in names:
@@ -225,6 +226,13 @@ def random_board(seed, folder):
         items = [(chance.random() < 0.2, chance.getrandbits(chance.choice((3, 32)))) for _ in range(chance.randrange(10, 60))]
         pathlib.Path(folder, f"in{number}").write_bytes(board.bytes_of(items))
     return random_words(chance)
+
+
+def change_pipelines(seed, folder, pipelines):
+    """Writes the board anew, each core on one of these pipelines, in another order of turns."""
+    chance, path = random.Random(seed), pathlib.Path(folder, "board.toml")
+    text = re.sub('pipeline = "[a-z]+"', lambda _: f'pipeline = "{chance.choice(pipelines)}"', path.read_text())
+    path.write_text(re.sub('order = "[a-z]+"', lambda _: f'order = "{chance.choice(("ascending", "descending", "rotating"))}"', text))
 
 
 def random_words(chance):
