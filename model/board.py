@@ -259,7 +259,7 @@ def build(file, folder):
 
 
 def run(folder, name, cycles=CYCLES, entries=ENTRIES, journal=None, built=timing.BUILT):
-    """What `mbsim run` of a board file comes to, if so many pipelines are built; nothing is written."""
+    """What `mbsim run` of a board file comes to, where these pipelines are built; nothing is written."""
     try:
         fault, file = board_rules.least_fault(load(folder, name, LIMITS["board"]))
         if fault:

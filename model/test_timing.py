@@ -5,9 +5,12 @@ import re
 
 import board
 import core
+import directed_boards
 import elf
+import stages
 import timing
 from program import TOP
+from random_boards import VECTORS
 from test_board import END, RELAY, check, relay_text, run
 
 PLAIN, THREE, FIVE, EIGHT = timing.PIPELINES
@@ -23,27 +26,33 @@ DOCUMENT = TOP / "docs/PIPELINES.md"
 
 
 class Alone:
-    """A core of a pipeline with a memory of words, put port 0 to a file, and breaks, run to its end."""
+    """A core of a pipeline with a memory of words, put port 0 to a file, items for get port 0, and breaks, run to its end. In each
+    tick the stages of the pipeline give the due tick that the table gives."""
 
-    def __init__(self, pipeline, words, breaks=(), parts=()):
+    def __init__(self, pipeline, words, breaks=(), parts=(), items=(), limit=board.CYCLES):
         memory = bytearray(4096)
         for at, listed in ((0, words), *parts):
             memory[at:at + 4 * len(listed)] = elf.words(listed)
-        ports, out = board.Ports(), board.Link("l", 16, to_file="out")
-        ports.puts[0] = out
+        ports, out, given = board.Ports(), board.Link("l", 16, to_file="out"), board.Link("g", 16, items)
+        ports.puts[0], ports.gets[0] = out, given
         self.core = core.Core(memory, pipeline=pipeline)
         self.waited = []  # what each tick without an act waited for
         self.acted_in = []  # the ticks of the acts
-        self.board = board.Board([("c", 1, self, ports)], [out], [(ports, cycle, kind) for cycle, kind in breaks])
-        self.status = self.board.run()
+        self.stages = None if pipeline == PLAIN else stages.Stages(pipeline)
+        self.board = board.Board([("c", 1, self, ports)], [given, out], [(ports, cycle, kind) for cycle, kind in breaks])
+        self.status = self.board.run(limit)
         self.items = [word for _, word in out.left]
 
     def tick(self, ports):
         one = self.core
-        tick, (_, read), in_slot, past = one.ticks, one.operands_here(), one.slot is not None, one.past
+        tick, (name, read), in_slot, past = one.ticks, one.operands_here(), one.slot is not None, one.past
+        if self.stages:
+            check(f"the stages of {one.pipeline} in tick {tick}", self.stages.due_tick(name, read, in_slot), one.due_tick())
         done = one.tick(ports)
         if done[0]:
             self.acted_in.append(tick)
+            if self.stages:
+                self.stages.do(one.done)
         elif not one.idle(ports):
             self.waited.append(timing.reason(one.pipeline, past, tick, read, in_slot))
         return done
@@ -163,6 +172,14 @@ def document():
         check(f"the program tick by tick on {pipeline}", (chart.split(), done.items), (ticks, [25]))
 
 
+def stages_agree():
+    """The directed programs, with their breaks, go through the stages as the table says: `Alone` looks in each tick."""
+    for what, words, breaks in directed_boards.programs():
+        for pipeline in timing.PIPELINES[1:]:
+            done = Alone(pipeline, [0xB8080040], breaks, [(0x10, VECTORS), (0x40, words)], directed_boards.ITEMS, 150)
+            assert done.acted_in, what
+
+
 def old_acts():
     """The last `REACH` acts give what all of them give."""
     chance = random.Random(1)
@@ -178,7 +195,7 @@ def old_acts():
 
 
 def main():
-    for test in (cycles, results, reasons, two_loads, missed_gets, due_ticks, operands, deferred_breaks, takes, relay, document, old_acts):
+    for test in (cycles, results, reasons, two_loads, missed_gets, due_ticks, operands, deferred_breaks, takes, relay, document, stages_agree, old_acts):
         test()
     print("timing model: all worked runs agree")
 
