@@ -1,10 +1,12 @@
-"""A MicroBlaze core, plain and slow, from UG984: what the proved program is compared with.
+"""A MicroBlaze core, simple and slow, from UG984: what the proved program is compared with.
 
-It knows nothing of the program. Each word is looked up in the whole table of `instructions`. What a core stands in (its
-links, breaks and bus) is an object like `board.Ports`.
+It knows nothing of the program. Each word is looked up in the whole table of `instructions`. A core does one instruction at
+a time, whatever its pipeline; the pipeline says in which tick, by `timing`. What a core stands in (its links, breaks and bus)
+is an object like `board.Ports`.
 """
 import functools
 
+import timing
 from instructions import BIP, C, DZO, EE, EFFECTS, EIP, FSL, IE, IMMEDIATE, MASKS, ROWS, WORD, Operands, signed
 
 
@@ -37,21 +39,28 @@ def link_flags(word, name):
 
 
 class Core:
-    def __init__(self, memory, entry=0, order="big", network=False):
-        self.memory, self.order, self.network = memory, order, network
+    def __init__(self, memory, entry=0, order="big", network=False, pipeline="plain"):
+        self.memory, self.order, self.network, self.pipeline = memory, order, network, pipeline
         self.r = [0] * 32
         self.pc = entry
         self.msr = self.ear = self.esr = self.btr = self.edr = 0
         self.prefix = self.slot = self.stopped = None
         self.atomic = self.asleep = False
         self.told = []  # what the act in hand enters in the journal
+        self.ticks, self.past = 0, []  # the ticks that it had; its last acts as time sees them, the oldest first
+        self.done = timing.Act(0)  # the act in hand
 
     # one chance to act
 
     def tick(self, ports):
         """Does the one act that is due. Answers whether there was one, and what it, or a wait, enters in the journal."""
-        self.told = []
-        return self.act(ports), self.told
+        self.told, self.done = [], timing.Act(self.ticks)
+        acted = self.act(ports)
+        if acted and not self.stopped:
+            # older acts can't hold the next one back
+            self.past = (self.past + [self.done])[-timing.REACH:]
+        self.ticks += 1
+        return acted, self.told
 
     def act(self, ports):
         if self.stopped:
@@ -64,11 +73,11 @@ class Core:
         if self.asleep:
             return False
         word = self.word_here()
+        if self.has_ended(word, ports) or self.ticks < self.due_tick():
+            return False
         if word is None:
             self.fault(3, f"ibus {self.pc:08X}")
             return True
-        if self.has_ended(word, ports):
-            return False
         name, form = decode(word)
         if name is None or self.network and is_link(name) and link_flags(word, name) & 16:
             self.fault(2, f"illegal {word:08X}")
@@ -81,7 +90,19 @@ class Core:
             self.execute(word, name, form, ports)
         return True
 
+    def due_tick(self):
+        """The tick from which on the instruction at pc may act."""
+        name, read = self.operands_here()
+        return timing.due_tick(self.pipeline, self.past, name, read, self.slot is not None)
+
+    def operands_here(self):
+        """The name of the instruction at pc and the registers that it reads; None and none if there is no instruction."""
+        word = self.word_here()
+        name, form = decode(word) if word is not None else (None, None)
+        return name, timing.reads(name, form, word) if name else set()
+
     def execute(self, word, name, form, ports):
+        self.done.name = name
         rd, ra, rb, low = word >> 21 & 31, word >> 16 & 31, word >> 11 & 31, word & 0xFFFF
         a, d = self.r[ra], self.r[rd]
         if form in IMMEDIATE:
@@ -173,6 +194,8 @@ class Core:
         self.atomic = False
 
     def put_register(self, number, value):
+        """The result of an instruction."""
+        self.done.register = number
         if number:
             self.r[number] = value & WORD
 
@@ -192,6 +215,7 @@ class Core:
             self.r[17] = (self.pc + 4) & WORD
         self.msr = (self.msr | EIP) & ~EE
         self.pc, self.prefix, self.slot, self.atomic = 0x20, None, None, False
+        self.done = timing.Act(self.ticks)
         self.told.append(f"raised {self.esr:08X}")
 
     def stop(self, cause):
@@ -228,11 +252,21 @@ class Core:
         self.put_register(rd, int(value))
 
     def branch(self, target, delayed):
+        """A branch that is taken."""
+        self.done.jump = "taken"
         if delayed:
-            self.pc, self.slot = (self.pc + 4) & WORD, target
+            self.hold_slot(target)
         else:
-            self.pc, self.slot = target, None
-        self.prefix, self.atomic = None, False
+            self.pc, self.prefix, self.slot, self.atomic = target, None, None, False
+
+    def hold_slot(self, target):
+        """The next instruction runs first, and then the one at the target."""
+        self.pc, self.prefix, self.slot, self.atomic = (self.pc + 4) & WORD, None, target, False
+
+    def end_store(self, addr):
+        self.advance()
+        if (addr - self.pc) & WORD < timing.STRIKING_DISTANCE:
+            self.done.jump = "struck"
 
     def divide(self, has_signs, rd, a, b):
         if a == 0:
@@ -261,7 +295,7 @@ class Core:
             self.reach_bus(store, size, rd, addr, value, ports)
         elif store:
             self.memory[addr:addr + size] = (value & (1 << 8 * size) - 1).to_bytes(size, self.order)
-            self.advance()
+            self.end_store(addr)
         else:
             self.result(rd, int.from_bytes(self.memory[addr:addr + size], self.order))
 
@@ -277,7 +311,7 @@ class Core:
         if answer is None:
             self.fault(4, f"dbus {addr:08X}", addr)
         elif store:
-            self.advance()
+            self.end_store(addr)
         else:
             self.result(rd, answer)
 
@@ -288,6 +322,7 @@ class Core:
         if flags & 16:
             self.put_flag(C, not ready)
         if not ready:
+            self.done.register = rd if name.startswith("get") else None  # as late as if it had been written
             self.told.append(f"missed {name[:3]} {port}")
         elif name.startswith("put"):
             self.send(flags, port, a, ports)

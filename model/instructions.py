@@ -13,6 +13,11 @@ MASKS = {
     "I": 0xFFFF0000, "IL": 0xFC1F0000, "CR": 0xFFE007FF, "CI": 0xFFE00000, "M": 0xFC1FFFFF, "T": 0xFFE0FFFF,
     "E": 0xFC1F8000, "G": 0xFC1F83F0, "P": 0xFFE087F0, "GD": 0xFC1F041F, "PD": 0xFFE0043F,
 }
+# the register fields of each form
+FIELDS = {form: fields.split() for form, fields in {
+    "A": "rD rA rB", "U": "rD rA", "B": "rD rA", "S": "rD rA", "R": "rB", "RL": "rD rB", "I": "", "IL": "rD", "CR": "rA rB",
+    "CI": "rA", "M": "rD", "T": "rA", "E": "rD", "G": "rD", "P": "rA", "GD": "rD rB", "PD": "rA rB"}.items()}
+SHIFTS = {"rD": 21, "rA": 16, "rB": 11}
 IMMEDIATE = {"B", "I", "IL", "CI"}
 
 
@@ -138,7 +143,7 @@ def branches_if(holds, delayed=False):
         if holds(signed(i.a)):
             core.branch((core.pc + i.b) & WORD, delayed)
         elif delayed:
-            core.branch((core.pc + 8) & WORD, True)
+            core.hold_slot((core.pc + 8) & WORD)
         else:
             core.advance()
     return effect

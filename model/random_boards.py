@@ -5,15 +5,19 @@ Each is a function of its seed.
 import json
 import pathlib
 import random
+import re
 
 import board
 import core
 import elf
+import timing
+from instructions import FIELDS
 
 END, NOTHING = 0xB8000000, 0x80000000
 ROWS = {name: (form, bits) for name, form, bits in core.ROWS}
-SUMS = "add rsub addc addk addik rsubik addic cmp cmpu mul muli bsrl bslli idiv idivu or xori andi pcmpbf pcmpne sra src sext8".split()
-BRANCHES = "beqid bneid bltid bgeid brid".split()
+SUMS = ("add rsub addc addk addik rsubik addic cmp cmpu mul mulhu muli bsrl bsra bslli bsrai idiv idivu or xori andi pcmpbf pcmpne sra src "
+        "sext8 wdc wic").split()
+BRANCHES = "beqid bneid bltid bgeid brid beqi bgti".split()
 # the words from 10 hex on: an interrupt's vector, a break's, and a handler that sends the cause and goes on
 VECTORS = [NOTHING, NOTHING, 0xB6500000, 0x30420001, 0x94608005, 0x6C03C000, 0x30210001, 0xB6910000, NOTHING]
 WITHOUT_N = [word & ~0x4000 if word == 0x6C03C000 else word for word in VECTORS]
@@ -31,9 +35,14 @@ def word_of(chance, name, **fields):
     return word
 
 
+def some_register(chance):
+    """Mostly one of a few, so that what is made is soon used."""
+    return chance.choice((3, 4, 5, 6, chance.randrange(16), chance.randrange(16)))
+
+
 def sum_word(chance):
     name = chance.choice(SUMS)
-    fields = {"rd": chance.randrange(16), "ra": chance.randrange(16)}
+    fields = {field.lower(): some_register(chance) for field in FIELDS[ROWS[name][0]]}
     if ROWS[name][0] == "B":
         fields["low"] = chance.choice((chance.randrange(-8, 8), chance.getrandbits(16)))
     return word_of(chance, name, **fields)
@@ -53,7 +62,7 @@ def link_word(chance, ports, network):
         letters = flags << 5 & (0x3E0 if name == "get" else 0x3C0)
         form = (0x4C000000 | chance.randrange(16) << 21) if name == "get" else (0x4C000400 | chance.randrange(16) << 16)
         return [0x30000000 | 19 << 21 | port, form | 19 << 11 | letters]
-    register = chance.randrange(16) << (21 if name == "get" else 16)
+    register = some_register(chance) << (21 if name == "get" else 16)
     return [ROWS[name][1] | register | flags << 10 & (0x7C00 if name == "get" else 0x7800) | port]
 
 
@@ -61,7 +70,24 @@ def memory_word(chance):
     name = chance.choice(("lwi", "swi", "lbui", "sbi", "lhui", "shi"))
     place = chance.choice((0x800 + 4 * chance.randrange(8), 0x800 + 4 * chance.randrange(8), 0x800 + 4 * chance.randrange(8),
                            0x800 + chance.randrange(32), chance.choice((0x800, 0x7000))))
-    return word_of(chance, name, rd=chance.randrange(16), ra=0, low=place)
+    return word_of(chance, name, rd=some_register(chance), ra=0, low=place)
+
+
+def patch(chance):
+    """Stores a sum over a word some words ahead, or a byte that leaves it as it was; r18 has the address of the first word."""
+    words = [word_of(chance, "mfs rpc", rd=18)]
+    between = [sum_word(chance) for _ in range(chance.randrange(11))]
+    target = sum_word(chance)
+    register = chance.randrange(4, 16)
+    if chance.random() < 0.3:
+        place = 4 * chance.randrange(len(between) + 4) + 3
+        words += [word_of(chance, "lbui", rd=register, ra=18, low=place), word_of(chance, "sbi", rd=register, ra=18, low=place)]
+    else:
+        new = sum_word(chance)
+        words += [0xB0000000 | new >> 16, word_of(chance, "addik", rd=register, ra=0, low=new)]
+        words += [word_of(chance, "brid", low=8)] * (chance.random() < 0.3)
+        words += [word_of(chance, "swi", rd=register, ra=18, low=4 * (len(words) + 1 + len(between)))]
+    return words + between + [target]
 
 
 def look(chance, ports, network):
@@ -89,8 +115,10 @@ def piece(chance, ports, network, depth=0):
         return link_word(chance, ports, network)
     if kind < 0.5:
         return look(chance, ports, network)
-    if kind < 0.6:
+    if kind < 0.57:
         return [sum_word(chance)]
+    if kind < 0.61:
+        return patch(chance)
     if kind < 0.7:
         return [0xB0000000 | chance.getrandbits(16), word_of(chance, "addik", rd=chance.randrange(16), ra=0)]
     if kind < 0.8:
@@ -111,6 +139,8 @@ def between(chance, ports, network):
         return [0xB0000000 | chance.getrandbits(16), word_of(chance, "addik", rd=chance.randrange(3, 16), ra=chance.randrange(8))]
     if kind < 0.7:
         return [word_of(chance, chance.choice(BRANCHES), low=8), sum_word(chance)]
+    if kind < 0.73:
+        return patch(chance)
     return [sum_word(chance) if kind < 0.85 else memory_word(chance) if kind < 0.97 else rare_word(chance)]
 
 
@@ -172,20 +202,21 @@ def random_links(chance, names):
     return tables, ports
 
 
-def random_board(seed, folder):
-    """Writes a board with its images and inputs; answers the words to run it with."""
+def random_board(seed, folder, network=None):
+    """Writes a board with its images and inputs, mostly with pipelines mixed; answers the words to run it with."""
     chance = random.Random(seed)
     names = chance.sample(["a", "b_1", "c9", "zz", "m", "_q"], chance.randrange(1, 5))
-    network = chance.random() < 0.25
+    network = chance.random() < 0.25 if network is None else network
     tables, ports = random_links(chance, names)
+    mix = chance.choice((timing.BUILT, timing.BUILT, timing.BUILT[:1], timing.BUILT[1:]))
     for name in names:
         pathlib.Path(folder, f"{name}.elf").write_bytes(random_image(chance, ports[name], network))
-        rows = [f"[core.{name}]", f'image = "{name}.elf"', 'pipeline = "plain"'] + [f"clock = {chance.randrange(1, 5)}"] * (chance.random() < 0.4)
+        rows = [f"[core.{name}]", f'image = "{name}.elf"', f'pipeline = "{chance.choice(mix)}"'] + [f"clock = {chance.randrange(1, 5)}"] * (chance.random() < 0.4)
         tables.append("\n".join(rows + [f"memory = {chance.choice((4096, 8192))}"] * (chance.random() < 0.5)))
     cycle = 0
     for number in range(0 if network else chance.choice((0, 0, 1, 3, 6, 12))):
         # often two at once
-        cycle = chance.choice((cycle, chance.randrange(90)))
+        cycle = chance.choice((cycle, chance.randrange(90), chance.randrange(300)))
         tables.append(f'[event.e{number}]\ncore = "{chance.choice(names)}"\ncycle = {cycle}\n'
                       f'kind = "{chance.choice(("break", "break", "nonmaskable"))}"')
     chance.shuffle(tables)
@@ -197,8 +228,15 @@ def random_board(seed, folder):
     return random_words(chance)
 
 
+def change_pipelines(seed, folder, pipelines):
+    """Writes the board anew, each core on one of these pipelines, in another order of turns."""
+    chance, path = random.Random(seed), pathlib.Path(folder, "board.toml")
+    text = re.sub('pipeline = "[a-z]+"', lambda _: f'pipeline = "{chance.choice(pipelines)}"', path.read_text())
+    path.write_text(re.sub('order = "[a-z]+"', lambda _: f'order = "{chance.choice(("ascending", "descending", "rotating"))}"', text))
+
+
 def random_words(chance):
-    words = [["--cycles", str(chance.choice((chance.randrange(40), 200, 300, 300, 600)))]]
+    words = [["--cycles", str(chance.choice((chance.randrange(40), 300, 600, 600, 1200)))]]
     if chance.random() < 0.4:
         words.append([f"--journal={chance.choice((chance.randrange(40), chance.randrange(300), 2000))}"])
     words += [["--write-journal=journal"], ["board.toml"]]
