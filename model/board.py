@@ -16,7 +16,6 @@ import sys
 import board_rules
 import core
 import elf
-import timing
 
 CYCLES, ENTRIES = 10_000_000, 1_048_576
 LIMITS = {"board": 1_048_576, "image": 134_217_728, "input": 4_194_304}
@@ -214,10 +213,9 @@ def rows(file, table):
     return sorted(file.get(table, {}).items())
 
 
-def not_yet(file, built):
-    """The first place of a part that isn't built yet, or None."""
+def not_yet(file):
+    """The first place of a device, none of which is built yet, or None."""
     places = [f"{kind}.{name}" for kind in ("timer", "intc", "uart") for name, _ in rows(file, kind)]
-    places += [f"core.{name}.pipeline" for name, row in rows(file, "core") if row["pipeline"] not in built]
     return min(places, default=None)
 
 
@@ -258,16 +256,16 @@ def build(file, folder):
     return Board(cores, links, events, file.get("order", "ascending"))
 
 
-def run(folder, name, cycles=CYCLES, entries=ENTRIES, journal=None, built=timing.BUILT):
-    """What `mbsim run` of a board file comes to, where these pipelines are built; nothing is written."""
+def run(folder, name, cycles=CYCLES, entries=ENTRIES, journal=None):
+    """What `mbsim run` of a board file comes to; nothing is written."""
     try:
         fault, file = board_rules.least_fault(load(folder, name, LIMITS["board"]))
         if fault:
             raise Refused(6, f"board {fault[0]} at {fault[1].decode(errors='replace')}")
         if journal in file_names(file):
             raise Refused(4, "usage")
-        if not_yet(file, built):
-            raise Refused(17, f"not built at {not_yet(file, built)}")
+        if not_yet(file):
+            raise Refused(17, f"not built at {not_yet(file)}")
         board = build(file, folder)
     except Refused as refused:
         return Outcome(refused.status, err=f"mbsim: {refused.line}\n")

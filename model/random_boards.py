@@ -208,7 +208,7 @@ def random_board(seed, folder, network=None):
     names = chance.sample(["a", "b_1", "c9", "zz", "m", "_q"], chance.randrange(1, 5))
     network = chance.random() < 0.25 if network is None else network
     tables, ports = random_links(chance, names)
-    mix = chance.choice((timing.BUILT, timing.BUILT, timing.BUILT[:1], timing.BUILT[1:]))
+    mix = chance.choice((timing.PIPELINES, timing.PIPELINES, timing.PIPELINES[:1], timing.PIPELINES[1:]))
     for name in names:
         pathlib.Path(folder, f"{name}.elf").write_bytes(random_image(chance, ports[name], network))
         rows = [f"[core.{name}]", f'image = "{name}.elf"', f'pipeline = "{chance.choice(mix)}"'] + [f"clock = {chance.randrange(1, 5)}"] * (chance.random() < 0.4)

@@ -152,7 +152,7 @@ def relay():
     for first in timing.PIPELINES:
         for second in timing.PIPELINES:
             text = relay_text().replace('"plain"', f'"{first}"', 1).replace('"b.elf"\npipeline = "plain"', f'"b.elf"\npipeline = "{second}"')
-            done = run(text, RELAY, built=timing.PIPELINES)
+            done = run(text, RELAY)
             check(f"relay of {first} and {second}", (done.status, done.files["out"]), (0, bytes([0, 0, 0, 0, 7])))
 
 

@@ -8,7 +8,6 @@ import dataclasses
 from instructions import FIELDS, SHIFTS
 
 PIPELINES = ("plain", "three", "five", "eight")
-BUILT = ("plain", "three")  # those that the program has; a board with another one is refused with status 17
 
 # a row of the table: its number on each pipeline, in their order
 FIRST_TICK =                       (0, 2, 3, 3)

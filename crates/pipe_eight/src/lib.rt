@@ -2,16 +2,17 @@
 //!
 //! | Stage | What it holds | What a tick does there |
 //! |---|---|---|
-//! | fetch | the words from pc on that were fetched ahead | fetches the next word |
-//! | decode | the instruction at pc | reads its operands: from the youngest result in flight, else from the register file |
-//! | execute | the act | does the act; a divide takes 34 ticks |
-//! | memory 0 to 3 | the results of the four acts before | ends a multiplication or a shift in the third, a load in the fourth |
-//! | write-back | the result before those | writes it to the register file |
+//! | IF | the words from pc on that were fetched ahead | fetches the next word |
+//! | OF | the instruction at pc | reads its operands: from the youngest result in flight, else from the register file |
+//! | EX | what is computed | a sum or a branch is decided; a divide takes 33 ticks more |
+//! | M0 | the act | reaches memory and ports |
+//! | M1 to M3 | the results of the three acts before | ends a multiplication or a shift in M2, a load in M3 |
+//! | WB | the result before those | writes it to the register file |
 //!
-//! The first act is in the fourth tick. A result is in flight for five ticks, and forwarded from each of the stages behind
-//! execute; one that is multiplied can be used four ticks after its act, one that is loaded five. A taken branch empties
-//! fetch and decode: the act after it comes three ticks later. A take, a raise, and a store into one of the words ahead
-//! cost a tick more.
+//! The first act comes in tick 3. A result is in flight for five ticks, and forwarded to EX; what is multiplied or shifted by
+//! the barrel shifter can be used four ticks after its act, what is loaded five. A taken branch is decided in EX: the act at
+//! its target comes three ticks later. What is known in M0 alone, a take, a raise and a store into one of the words ahead,
+//! costs a tick more (UG984, "Eight Stage Pipeline"). `docs/PIPELINES.md` has the picture.
 #![tactic(auto)]
 
 use pipe_latch::StagedCore;
