@@ -1,7 +1,7 @@
 -- What is printed.
 use Rattle.std.specs.Prelude.{ℕ, if◌then◌else◌, List, [], ◌++◌, codes, decimal}
 use Rattle.axi_link.specs.declared.item.Item.{Item}
-use Rattle.run_journal.specs.Digits.{hex_of}
+use Rattle.host_io.specs.Digits.{hex_of}
 use Rattle.mb_sim.specs.declared.status.Status.{Status}
 use Rattle.mb_sim.specs.declared.status.Status.TheVariants.{Ended, Waiting, Stopped, CyclesSpent, JournalFull, Usage, ReadFault, WriteFault, NoMemory, TooLong, BadBoard, BadImage, BadInput, NotYet}
 

@@ -5,8 +5,8 @@ ghost use Rattle.mb_sim.specs.Lines.{line_of};
 ghost use Rattle.mb_sim.specs.Raw.{printed, printed_at, printed_by};
 
 use axi_link::Item;
-use host_io::{ShortText, Sink, StoreFault};
-use run_journal::{Entry, Journal, What, hex_of};
+use host_io::{ShortText, Sink, StoreFault, hex_of};
+use run_journal::{Entry, Journal, What};
 use std::alloc::Global;
 
 /// Writes a line for each item that the host got, in order.
