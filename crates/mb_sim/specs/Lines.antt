@@ -10,8 +10,8 @@ abbrev pub control_of : Item → List ℕ
 control_of item = if item.control then codes "1" else codes "0"
 
 -- the line of an item: its control bit, a space, its word
-abbrev pub line_of : Item → List ℕ
-line_of item = control_of item ++ codes " " ++ hex_of item.word ++ codes "\n"
+abbrev pub item_line : Item → List ℕ
+item_line item = control_of item ++ codes " " ++ hex_of item.word ++ codes "\n"
 
 -- a line of the program that says this
 abbrev pub line_with : List ℕ → List ℕ → List ℕ → List ℕ
