@@ -1,8 +1,9 @@
 -- Operands: how each is written, and what it reads as.
-use Rattle.std.specs.Prelude.{ℕ, ◌+◌, ◌-◌, ◌/◌, ◌%◌, ◌^◌, nat_lt, Bool, ◌&&◌, List, [], ◌∷◌, ◌++◌, if◌then◌else◌, Option, None, Some, ℤ, pos, negsuc, bytes_eq, codes, find, decimal}
+use Rattle.std.specs.Prelude.{ℕ, ◌-◌, ◌^◌, nat_lt, Bool, ◌&&◌, List, [], ◌∷◌, ◌++◌, if◌then◌else◌, Option, None, Some, ℤ, pos, negsuc, bytes_eq, codes, find, decimal}
 use Rattle.std.specs.Fmt.{signed_decimal}
 use Rattle.std.specs.Option.{option_map}
 use Rattle.std.specs.List.{range_with_len}
+use Rattle.host_io.specs.Digits.{hex_16}
 use Rattle.op_table.specs.declared.op.Op.{Op}
 use Rattle.op_table.specs.declared.entry.Row.{Row}
 use Rattle.op_table.specs.Mnemonics.{text_of}
@@ -41,13 +42,6 @@ sign_16 n = if nat_lt n (2 ^ 15) then pos n else negsuc (2 ^ 16 - 1 - n)
 abbrev pub low_16 : ℤ → Option ℕ
 low_16 (pos n) = if nat_lt n (2 ^ 15) then Some n else None
 low_16 (negsuc n) = if nat_lt n (2 ^ 15) then Some (2 ^ 16 - 1 - n) else None
-
-abbrev pub hex_digit : ℕ → ℕ
-hex_digit d = if nat_lt d 10 then 48 + d else 55 + d
-
--- 16 bits as four digits
-unfoldable pub hex_16 : ℕ → List ℕ
-hex_16 n = hex_digit (n / 2 ^ 12 % 16) ∷ hex_digit (n / 2 ^ 8 % 16) ∷ hex_digit (n / 2 ^ 4 % 16) ∷ hex_digit (n % 16) ∷ []
 
 -- how the operand of an instruction is written
 unfoldable pub slot_text : Slot → Instr → List ℕ

@@ -51,6 +51,44 @@ fn the_lowest_number_has_priority(rt: HostRuntime) -> Result<(), Fail> {
 }
 
 #[test]
+fn each_input_comes_before_those_of_higher_numbers(rt: HostRuntime) -> Result<(), Fail> {
+    let mut intc = Intc::new();
+    assert_eq!(rt; intc.access(Access::Write(0x8, 0xFFFF_FFFF)), Ok(0));
+    assert_eq!(rt; intc.access(Access::Write(0x1C, 3)), Ok(0));
+    intc.cycle(0xFFFF_FFFF);
+    for input in 0..32u32 {
+        assert_eq!(rt; intc.access(Access::Read(0x18)), Ok(input));
+        assert!(rt; intc.line());
+        assert_eq!(rt; intc.access(Access::Write(0xC, 1 << input)), Ok(0));
+    }
+    assert_eq!(rt; intc.access(Access::Read(0x18)), Ok(0xFFFF_FFFF));
+    assert!(rt; !intc.line());
+    Ok(())
+}
+
+#[test]
+fn inputs_reach_the_controller_once_hardware_is_enabled(rt: HostRuntime) -> Result<(), Fail> {
+    let mut intc = Intc::new();
+    assert_eq!(rt; intc.access(Access::Write(0x8, 0xFF)), Ok(0));
+    for (mer, written, inputs, isr, high) in [
+        // without HIE software writes ISR, and inputs don't reach it
+        (0, 0x10, 0x1, 0x10, false),
+        (1, 0x20, 0x1, 0x20, true),
+        // with HIE it is the other way round, and ME alone decides on the output
+        (2, 0x40, 0x1, 0x21, false),
+        (0, 0x80, 0x2, 0x23, false),
+        (1, 0, 0, 0x23, true),
+    ] {
+        assert_eq!(rt; intc.access(Access::Write(0x1C, mer)), Ok(0));
+        assert_eq!(rt; intc.access(Access::Write(0x0, written)), Ok(0));
+        intc.cycle(inputs);
+        assert_eq!(rt; intc.access(Access::Read(0x0)), Ok(isr), "MER {mer}");
+        assert_eq!(rt; intc.line(), high, "MER {mer}");
+    }
+    Ok(())
+}
+
+#[test]
 fn each_register_is_written_in_its_own_way(rt: HostRuntime) -> Result<(), Fail> {
     let mut intc = Intc::new();
     intc.cycle(0xFF);

@@ -7,7 +7,7 @@ use std::alloc::Global;
 use std::marker::Model;
 
 /// The greatest depth of a link, in items.
-pub const MAX_DEPTH: usize = 4096;
+const MAX_DEPTH: usize = 4096;
 
 /// Why a link was not made.
 #[derive(Clone, Copy, PartialEq, Eq, Debug)]

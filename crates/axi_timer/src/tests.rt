@@ -74,29 +74,74 @@ fn counts_up_and_down_once_and_again(rt: HostRuntime) -> Result<(), Fail> {
 
 #[test]
 fn a_write_of_control_takes_its_bits(rt: HostRuntime) -> Result<(), Fail> {
-    for (written, own, other) in [
-        (0x2, 0x2, 0),
-        (0x4, 0x4, 0),
-        (0x10, 0x10, 0),
-        (0x20, 0x20, 0),
-        (0x40, 0x40, 0),
-        (0x80, 0x80, 0),
-        (0x100, 0, 0),
-        (0x400, 0x480, 0x480),
-        (0x5F6, 0x4F6, 0x480),
-    ] {
-        let mut timer = Timer::new();
-        assert_eq!(rt; timer.access(Access::Write(0x10, written)), Ok(0));
-        assert_eq!(rt;
-            timer.access(Access::Read(0x10)),
-            Ok(own),
-            "written {written}"
-        );
-        assert_eq!(rt;
-            timer.access(Access::Read(0x0)),
-            Ok(other),
-            "written {written}"
-        );
+    for (own, other) in [(0x0, 0x10), (0x10, 0x0)] {
+        for (written, here, there) in [
+            (0x2, 0x2, 0),
+            (0x4, 0x4, 0),
+            (0x10, 0x10, 0),
+            (0x20, 0x20, 0),
+            (0x40, 0x40, 0),
+            (0x80, 0x80, 0),
+            (0x100, 0, 0),
+            (0x400, 0x480, 0x480),
+            (0x5F6, 0x4F6, 0x480),
+        ] {
+            let mut timer = Timer::new();
+            assert_eq!(rt; timer.access(Access::Write(own, written)), Ok(0));
+            for (offset, value) in [(own, here), (other, there)] {
+                assert_eq!(rt;
+                    timer.access(Access::Read(offset)),
+                    Ok(value),
+                    "written {written} to {own}"
+                );
+            }
+            // written as 0, each bit is 0 again, but for ENT of the other counter, which came with ENALL
+            assert_eq!(rt; timer.access(Access::Write(own, 0)), Ok(0));
+            for (offset, value) in [(own, 0), (other, there & 0x80)] {
+                assert_eq!(rt;
+                    timer.access(Access::Read(offset)),
+                    Ok(value),
+                    "written {written} to {own}"
+                );
+            }
+        }
+    }
+    Ok(())
+}
+
+#[test]
+fn a_count_that_passed_its_end_goes_on_when_it_is_loaded_or_enabled_anew(
+    rt: HostRuntime,
+) -> Result<(), Fail> {
+    for (tcsr, tlr, tcr) in COUNTERS {
+        // LOAD, or ENT written as 0 and as 1, with the count that each leaves, and the two after it
+        for (anew, control, counts) in [
+            (0xE2, 0x1E2, [5, 4, 3]),
+            (0x42, 0x142, [0xFFFF_FFFF, 0xFFFF_FFFE, 0xFFFF_FFFD]),
+        ] {
+            let mut timer = Timer::new();
+            assert_eq!(rt; timer.access(Access::Write(tlr, 5)), Ok(0));
+            for (written, control, count, high) in [
+                // ENT, ENIT and UDT from 0: TINT, and the count stands
+                (0xC2, 0x1C2, 0xFFFF_FFFF, true),
+                (0xC2, 0x1C2, 0xFFFF_FFFF, true),
+                (anew, control, counts[0], true),
+                (0xC2, 0x1C2, counts[1], true),
+                // TINT written as 1 is cleared
+                (0x1C2, 0xC2, counts[2], false),
+            ] {
+                assert_eq!(rt; timer.access(Access::Write(tcsr, written)), Ok(0));
+                timer.cycle();
+                for (offset, value) in [(tcsr, control), (tcr, count)] {
+                    assert_eq!(rt;
+                        timer.access(Access::Read(offset)),
+                        Ok(value),
+                        "written {written} to {tcsr}"
+                    );
+                }
+                assert_eq!(rt; timer.line(), high, "written {written} to {tcsr}");
+            }
+        }
     }
     Ok(())
 }

@@ -1,5 +1,17 @@
 //! What lies between two instructions: the next pc, the immediate prefix, the delay slot of a branch and the atomic
-//! latch.
+//! latch (UG984, Delay Slots, and the instruction `imm`).
+//!
+//! Each function works on an `Arch`. An instruction ends with exactly one of `advance` (the next word, or the target that
+//! its slot holds), `branch` and `hold_prefix` (an `imm`). `immediate` is the operand that the prefix and 16 bits give, and
+//! `may_take` whether an interrupt or a break may come at pc: none does between a prefix or a branch and the instruction
+//! that belongs to it.
+//!
+//! ```text
+//! hold_prefix(&mut arch, 0x1234);             // imm 0x1234
+//! let operand = immediate(&arch, 0x5678);     // 0x1234_5678
+//! branch(&mut arch, 0x2000, true);            // pc is that of the slot, which holds 0x2000
+//! advance(&mut arch, false);                  // pc is 0x2000
+//! ```
 #![tactic(auto)]
 
 mod slots;

@@ -1,4 +1,4 @@
-//! The outside: files and streams with their faults, and the names and small texts that go with them.
+//! The outside: files and streams with their faults, and the names, the small texts and the digits that go with them.
 //!
 //! A program is written over the traits `Shelf` (files by name), `Source` (bytes to read) and `Sink` (bytes to write), whose
 //! contracts say what each answer leaves: all was done, or a fault was counted and at most a prefix was moved. What they are
@@ -16,6 +16,7 @@
 #![tactic(auto)]
 
 mod blob;
+mod digits;
 mod faults;
 mod files;
 mod names;
@@ -30,6 +31,7 @@ mod texts;
 mod traits;
 
 pub use blob::{Blob, Blobs};
+pub use digits::{hex_16, hex_of, hex_of_byte};
 pub use faults::{LoadFault, NoMemory, ReadFailed, ShelfFaults, StoreFault};
 pub use files::MemFile;
 pub use names::{FileName, Name, is_file_name};

@@ -1,4 +1,5 @@
--- The one act that is due: the first rule that applies decides.
+-- The one act that is due: the first of nine rules that applies decides. They stand at the head of stepping.rt; those that
+-- the word at pc decides, from the fourth on, are in Wants.
 use Rattle.std.specs.Prelude.{ℕ, ◌%◌, ◌==◌, ◌&&◌, ◌||◌, not, Bool, true, false, List, Option, Some, None, if◌then◌else◌}
 use Rattle.axi_link.specs.declared.item.Item.{Item}
 use Rattle.core_regs.specs.declared.registers.Arch.{Arch}
@@ -36,7 +37,7 @@ pick false true interrupt = Some Break
 pick false false true = Some Interrupt
 pick false false false = None
 
--- the take that is due, where one may come
+-- rule 2: the take that is due, where one may come
 abbrev pub take_by : Arch → Shown → Bool → Option Take
 take_by a s false = None
 take_by a s true =
@@ -53,7 +54,7 @@ takes a t = record {
   done = record { act = acts.Took t; write = Some (link_of_take a t); store = None; late = None; jumped = false };
 }
 
--- an access that finds its port empty or full misses, or waits where it cannot
+-- rule 8: an access that finds its port empty or full misses, or waits where it cannot
 abbrev pub or_waits : ℕ → Bool → Option Deed → Due
 or_waits port full (Some missed) = Does missed
 or_waits port full None = Waits port full
@@ -67,7 +68,7 @@ abbrev pub by_room : ℕ → Deed → Option Deed → Bool → Due
 by_room port deed full true = Does deed
 by_room port deed full false = or_waits port true full
 
--- what the answer of the outside leaves
+-- what the answer of the outside leaves; by rule 5 the core has ended at the branch to itself where no take can come any more
 abbrev pub reply : Arch → Want → Shown → Due
 reply a (Goes deed) s = Does deed
 reply a (Homes deed) s = if is_closed a s.hopes then Ends else Does deed
@@ -76,12 +77,12 @@ reply a (Puts port room full) s = by_room port room full (s.room port)
 reply a (Reads addr answer) s = Does (answer (s.bus_word addr))
 reply a (Writes addr word answer) s = Does (answer (s.bus_takes addr word))
 
--- a sleeping core does nothing
+-- rule 3: a sleeping core does nothing
 abbrev pub awake : Option Here → Operands → Arch → List ℕ → Shown → Bool → Due
 awake here o a m s true = Sleeps
 awake here o a m s false = reply a (wants here o a m) s
 
--- a stopped core does nothing; a take comes before all else
+-- rule 1: a stopped core does nothing; rule 2: a take comes before all else
 abbrev pub due_by : Option Here → Operands → Arch → List ℕ → Shown → Option Take → Option StopCause → Due
 due_by here o a m s t (Some cause) = Stops cause
 due_by here o a m s (Some t) None = Does (takes a t)

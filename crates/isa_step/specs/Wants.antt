@@ -52,7 +52,7 @@ deed_of Barrier g a = barrier g a
 -- the cache instructions do nothing; loads, stores and links stand below
 deed_of _ g a = retires g (advanced a false) None None
 
--- what an instruction asks
+-- rules 8 and 9: what an instruction asks; what asks nothing is done
 unfoldable pub effect : Kind → Given → Arch → List ℕ → Want
 effect (Load size) g a m = loads g a m size
 effect (Store size) g a m = stores g a m size
@@ -88,25 +88,26 @@ is_link (Get dynamic) = true
 is_link (Put dynamic) = true
 is_link _ = false
 
--- a link access that does not wait is an illegal word on a network board
+-- rule 6, on a network board: a link access that does not wait is an illegal word
 abbrev pub is_banned : Instr → Kind → Bool → Bool
 is_banned i kind network = network && is_link kind && is_nonblocking i.flags
 
 abbrev pub illegal : Arch → ℕ → Want
 illegal a word = Goes (faults a IllegalWord (stop.Illegal word) None)
 
--- an instruction in its place, or in a slot that it does not belong into
+-- rule 6; rule 7: an instruction in a slot that it does not belong into stops the core; else rules 8 and 9
 abbrev pub wants_kind : Kind → Instr → ℕ → Operands → Arch → List ℕ → Want
 wants_kind kind i word o a m =
     if is_banned i kind a.network then illegal a word
     else if is_some a.slot && not (belongs_into_slot kind) then Goes (stops a (stop.Slot word) None)
     else effect kind (given i o a) a m
 
+-- rule 6: a word that means no instruction is illegal
 abbrev pub wants_instr : Option Instr → ℕ → Operands → Arch → List ℕ → Want
 wants_instr None word o a m = illegal a word
 wants_instr (Some i) word o a m = wants_kind (kind_of i.op) i word o a m
 
--- the branch to itself, with which a program ends
+-- rule 5: the branch to itself, with which a program ends
 abbrev pub end_word : ℕ
 end_word = 0xB800_0000
 
@@ -121,7 +122,7 @@ comes_home a = record {
   done = record { act = acts.Retired; write = None; store = None; late = None; jumped = true };
 }
 
--- what the word at pc asks; where there is none, the fault is that of the instruction bus
+-- what the word at pc asks; rule 4: where there is none, the fault is that of the instruction bus
 unfoldable pub wants : Option Here → Operands → Arch → List ℕ → Want
 wants None o a m = Goes (faults a InstrBus (stop.InstrBus a.pc) None)
 wants (Some here) o a m = if is_end here.word a then Homes (comes_home a) else wants_instr here.instr here.word o a m

@@ -38,12 +38,9 @@ pub use acts::{
 pub use bench::BenchPorts;
 pub use idling::{idle, idle_at};
 pub use laws::{acts_are_told, rest_is_final};
-pub use op_table::{
-    Condition, Kind, Latency, Return, Second, Special, TopBit, Width, kind_of, latency_of,
-    second_of,
-};
+pub use op_table::{Kind, Latency, kind_of, latency_of};
 pub use ports::{Ports, Sees};
 pub use stepping::{
-    END_WORD, act, here_at, is_atomic_here, is_closed, met, perform, perform_here, take_due,
+    END_WORD, act, here_at, is_atomic_here, is_closed, is_end, met, perform, take_due,
 };
 pub use supplying::{Given, read_operands, supply};

@@ -90,6 +90,7 @@ fn do_instr<P: Ports>(
     execute(kind, &given, a, m, p)
 }
 
+/// Whether a word at pc is the branch to itself that ends a program, with no prefix and no slot held.
 pub fn is_end(word: u32, a: &Arch) -> bool
     ensures { result ≡ is_end word a.now }
 {

@@ -10,7 +10,8 @@ use Rattle.std.proofs.lemmas.Str.Parse.{digit_from_value}
 use Rattle.std.proofs.lemmas.Fmt.{decimal_is_IsNumeral}
 use Rattle.std.proofs.lemmas.Bool.{cases_Bool, lt-ltb, ltb-false, le-leb}
 use Rattle.std.proofs.lemmas.Bool.Decides.{nat_tests}
-use Rattle.asm_syntax.specs.Operands.{hex_16, hex_digit, sign_16, low_16}
+use Rattle.asm_syntax.specs.Operands.{sign_16, low_16}
+use Rattle.host_io.specs.Digits.{hex_16, hex_digit}
 use Rattle.mb_lex.specs.Bytes.{continues_name, is_digit}
 use Rattle.mb_lex.specs.Literals.{magnitude, number_of, numeral}
 use Rattle.mb_dis.proofs.Known.{Each, each_at}

@@ -6,7 +6,8 @@ use Rattle.mb_decode.specs.declared.instruction.Instr.{Instr}
 use Rattle.mb_decode.specs.Meaning.{Means, meaning}
 use Rattle.asm_syntax.specs.declared.mnemonics.Named.{Named}
 use Rattle.asm_syntax.specs.declared.slot.Slot.{Slot}
-use Rattle.asm_syntax.specs.Operands.{hex_16, slot_read, slot_text}
+use Rattle.asm_syntax.specs.Operands.{slot_read, slot_text}
+use Rattle.host_io.specs.Digits.{hex_16}
 use Rattle.asm_syntax.specs.Shapes.{shape_of}
 use Rattle.asm_syntax.specs.Spelling.{mnemonic, shape_of_named, spelled}
 use Rattle.mb_lex.specs.Lexemes.{Comma, Lexeme, Placed, Word, lex}

@@ -1,37 +1,13 @@
 ghost use Rattle.std.specs.Prelude.{◌≡◌, ◌+◌, ◌<◌, ◌≤◌, ◌++◌, codes, length};
-ghost use Rattle.asm_syntax.specs.Operands.{hex_16, hex_digit, sign_16, slot_text};
+ghost use Rattle.asm_syntax.specs.Operands.{sign_16, slot_text};
+ghost use Rattle.host_io.specs.Digits.{hex_16};
 ghost use Rattle.mb_dis.specs.Statement.{operands_text, tail_text};
 
 use asm_syntax::{OperandText, Slot, port_name, register_name, special_name};
-use host_io::ShortText;
+use host_io::{ShortText, hex_16};
 use itoa::Buffer;
 use mb_decode::Instr;
 use op_table::kind_of;
-
-/// An upper-case digit.
-fn hex_digit(digit: u16) -> u8
-    requires { digit < 16 }
-    ensures { result ≡ hex_digit digit }
-{
-    if digit < 10 {
-        b'0' + digit as u8
-    } else {
-        b'A' - 10 + digit as u8
-    }
-}
-
-/// Four upper-case digits.
-#[tactic(auto, unfolding(asm_syntax::specs::Operands::hex_16))]
-pub fn hex_16(value: u16) -> [u8; 4]
-    ensures { result ≡ hex_16 value }
-{
-    [
-        hex_digit(value / 0x1000 % 16),
-        hex_digit(value / 0x100 % 16),
-        hex_digit(value / 0x10 % 16),
-        hex_digit(value % 16),
-    ]
-}
 
 /// 16 bits as a number with a sign.
 fn sign_16(value: u16) -> i32

@@ -3,9 +3,9 @@ ghost use Rattle.op_table.specs.Table.{row_for};
 ghost use Rattle.mb_dis.specs.Statement.{instr_text, text_of, word_text};
 
 use crate::mnemonic::mnemonic;
-use crate::operands::{add_operands, hex_16};
+use crate::operands::add_operands;
 use asm_syntax::shape_of;
-use host_io::ShortText;
+use host_io::{ShortText, hex_16};
 use mb_decode::{Instr, decode};
 use op_table::row_of;
 

@@ -1,7 +1,7 @@
 -- What is printed.
 use Rattle.std.specs.Prelude.{ℕ, if◌then◌else◌, List, [], ◌++◌, codes, decimal}
 use Rattle.axi_link.specs.declared.item.Item.{Item}
-use Rattle.run_journal.specs.Digits.{hex_of}
+use Rattle.host_io.specs.Digits.{hex_of}
 use Rattle.mb_sim.specs.declared.status.Status.{Status}
 use Rattle.mb_sim.specs.declared.status.Status.TheVariants.{Ended, Waiting, Stopped, CyclesSpent, JournalFull, Usage, ReadFault, WriteFault, NoMemory, TooLong, BadBoard, BadImage, BadInput, NotYet}
 
@@ -10,8 +10,8 @@ abbrev pub control_of : Item → List ℕ
 control_of item = if item.control then codes "1" else codes "0"
 
 -- the line of an item: its control bit, a space, its word
-abbrev pub line_of : Item → List ℕ
-line_of item = control_of item ++ codes " " ++ hex_of item.word ++ codes "\n"
+abbrev pub item_line : Item → List ℕ
+item_line item = control_of item ++ codes " " ++ hex_of item.word ++ codes "\n"
 
 -- a line of the program that says this
 abbrev pub line_with : List ℕ → List ℕ → List ℕ → List ℕ

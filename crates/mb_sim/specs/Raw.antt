@@ -13,7 +13,7 @@ use Rattle.board_file.specs.declared.board.LinkRow.{LinkRow}
 use Rattle.board_file.specs.declared.board.Pipeline.TheVariants.{Plain}
 use Rattle.board_file.specs.declared.board.Turn.TheVariants.{Ascending}
 use Rattle.board_machine.specs.World.{World, Start}
-use Rattle.mb_sim.specs.Lines.{line_of}
+use Rattle.mb_sim.specs.Lines.{item_line}
 
 -- one plain core with 65,536 bytes
 abbrev pub raw_core : List ℕ → CoreRow
@@ -46,7 +46,7 @@ raw_view image = record { arch = fresh 0 Big false; memory = memory_of image }
 
 -- the line of an item that left, for an entry that tells of one
 abbrev pub printed_by : What → List ℕ
-printed_by (HostGot link item) = line_of item
+printed_by (HostGot link item) = item_line item
 printed_by _ = []
 
 -- the same for an entry that may not be there

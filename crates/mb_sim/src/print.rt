@@ -1,12 +1,12 @@
 //! Printing the items that left.
 ghost use Rattle.std.specs.Prelude.{◌≡◌, slice_get};
 ghost use Rattle.host_io.specs.Outside.{Adds};
-ghost use Rattle.mb_sim.specs.Lines.{line_of};
+ghost use Rattle.mb_sim.specs.Lines.{item_line};
 ghost use Rattle.mb_sim.specs.Raw.{printed, printed_at, printed_by};
 
 use axi_link::Item;
-use host_io::{ShortText, Sink, StoreFault};
-use run_journal::{Entry, Journal, What, hex_of};
+use host_io::{ShortText, Sink, StoreFault, hex_of};
+use run_journal::{Entry, Journal, What};
 use std::alloc::Global;
 
 /// Writes a line for each item that the host got, in order.
@@ -41,14 +41,14 @@ fn print_entry<O: Sink>(alloc: Global, out: &mut O, entry: &Entry) -> Result<(),
     ensures { Adds (O.state out.old) (O.state out.new) (printed_by entry.now.what) result }
 {
     match entry.what {
-        What::HostGot { item, .. } => out.write_all(alloc, line_of(item).as_bytes()),
+        What::HostGot { item, .. } => out.write_all(alloc, item_line(item).as_bytes()),
         _ => Ok(()),
     }
 }
 
 /// The line of an item: its control bit, a space, eight digits and a line feed.
-fn line_of(item: Item) -> ShortText
-    ensures { result ≡ line_of item }
+fn item_line(item: Item) -> ShortText
+    ensures { result ≡ item_line item }
 {
     let mut line = ShortText::new();
     line.push(if item.control { b"1" } else { b"0" });

@@ -12,14 +12,14 @@ use std::alloc::Global;
 pub fn tell<E: Sink>(alloc: Global, err: &mut E, status: &Status)
     ensures { IsTold (E.state err.old) (E.state err.new) (told status.now) }
 {
-    let line = line_of(status);
+    let line = message_line(status);
     if !line.as_bytes().is_empty() {
         let _ = err.write_all(alloc, line.as_bytes());
     }
 }
 
 /// The line of a status, or the empty text where the command ran.
-fn line_of(status: &Status) -> LongText
+fn message_line(status: &Status) -> LongText
     ensures { result ≡ told status.now }
 {
     match status {

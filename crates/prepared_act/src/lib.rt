@@ -14,12 +14,12 @@
 #![tactic(auto)]
 
 mod accessing;
+mod at_once;
 mod flow;
 mod prepared;
-mod retiring;
 #[cfg(test)]
 mod tests;
 
+pub use at_once::act_at_once;
 pub use flow::{Flow, flow_of};
 pub use prepared::{Prepared, late_register};
-pub use retiring::act_at_once;

@@ -1,4 +1,13 @@
-//! The probes of a board, which are told the entries of its journal.
+//! The probes of a board, which are told the entries of its journal as they come.
+//!
+//! A probe watches a run from outside: it counts or filters entries, and may ask the board to stop. A board stands on
+//! `ProbeSet` alone and tells it each `Entry`; the answer is whether a probe asked to stop. For now no probe can be
+//! attached, so that the answer is always no.
+//!
+//! ```text
+//! let mut probes = ProbeSet::new();
+//! let stop = probes.tell(&entry);     // false
+//! ```
 #![tactic(auto)]
 
 ghost use Rattle.std.specs.Prelude.{◌≡◌, false};

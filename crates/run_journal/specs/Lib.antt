@@ -1,4 +1,3 @@
 pub mod Log
-pub mod Digits
 pub mod Lines
 pub mod Files

@@ -9,7 +9,7 @@ use Rattle.core_regs.specs.declared.causes.WaitOn.{WaitOn}
 use Rattle.run_journal.specs.declared.entry.Entry.{Entry}
 use Rattle.run_journal.specs.declared.entry.What.{What}
 use Rattle.run_journal.specs.declared.entry.What.TheVariants.{Got, Sent, Seen, Room, Missed, Read, ReadRefused, Wrote, WriteRefused, Took, Raised, Slept, Stopped, Wait, LineUp, LineDown, HostSent, HostGot, Left}
-use Rattle.run_journal.specs.Digits.{hex_of, hex_of_byte}
+use Rattle.host_io.specs.Digits.{hex_of, hex_of_byte}
 
 -- one more word of a line, after a space
 abbrev pub word : List ℕ → List ℕ

@@ -8,18 +8,17 @@
 //! ```text
 //! let mut journal = Journal::reserve(rt.alloc(), 1_048_576)?;
 //! journal.push(entry);
-//! println!(rt; "{}", line_of(&entry).as_text())?;
+//! let line = line_of(&entry, &core, &part); // with the names of the entry's core, and of its link or UART
+//! out.write_all(rt.alloc(), line.as_bytes())?;
 //! ```
 #![tactic(auto)]
 
-mod digits;
 mod entry;
 mod journal;
 mod line;
 #[cfg(test)]
 mod tests;
 
-pub use digits::{hex_of, hex_of_byte};
 pub use entry::{Entry, NO_CORE, What};
 pub use host_io::NoMemory;
 pub use journal::Journal;

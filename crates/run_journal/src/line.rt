@@ -1,13 +1,12 @@
 //! The text of an entry.
 ghost use Rattle.std.specs.Prelude.{◌≡◌, ◌+◌, ◌<◌, ◌≤◌, ◌++◌, codes, length};
-ghost use Rattle.run_journal.specs.Digits.{hex_of_byte};
+ghost use Rattle.host_io.specs.Digits.{hex_of_byte};
 ghost use Rattle.run_journal.specs.Lines.{access, bit, hex, item_at, item_of, item_words, line_of, number, shown_core, side, stop_words, take_name, value_of, word, words_of};
 
-use crate::digits::{hex_of, hex_of_byte};
 use crate::entry::{Entry, NO_CORE, What};
 use axi_link::Item;
 use core_regs::{StopCause, Take, WaitOn};
-use host_io::{LongText, Name, ShortText, Text};
+use host_io::{LongText, Name, ShortText, Text, hex_of, hex_of_byte};
 use itoa::Buffer;
 
 /// The line of an entry: cycle, core, act and what was done, with one space between and a line feed at the end.

@@ -1,5 +1,16 @@
 //! Entries into the handlers of interrupts, breaks and faults, and the returns from them (UG984, Reset, Interrupts,
 //! Exceptions, and Break).
+//!
+//! `enter` takes an interrupt or a break, and `raise` a fault, by its `Cause`: pc goes to the handler, MSR, ESR, EAR, EDR
+//! and BTR change as the guide says, and the return address goes to r14, r16 or r17. `divert` and `trap` are the same without
+//! the write of that register, which they answer, for cores that write it later. `leave` is what a return changes in MSR and
+//! ESR, and `esr_of` the exception status of a fault.
+//!
+//! ```text
+//! enter(&mut arch, Take::Interrupt);          // pc 0x10, IE off, r14 the address that was interrupted
+//! raise(&mut arch, &Cause::DivideZero);       // pc 0x20, EE off, EIP on, ESR 5, r17 the address after it
+//! leave(&mut arch, Op::Rted);                 // EE on, EIP off, ESR 0
+//! ```
 #![tactic(auto)]
 
 mod cause;

@@ -71,6 +71,27 @@ fn control_empties_queues_and_enables(rt: HostRuntime) -> Result<(), Fail> {
 }
 
 #[test]
+fn no_edge_comes_while_interrupts_are_disabled(rt: HostRuntime) -> Result<(), Fail> {
+    let mut uart = Uart::new(rt.alloc())?;
+    for (control, next, edges) in [
+        // TX becomes empty, and RX non-empty
+        (0x0, None, false),
+        (0x0, Some(1), false),
+        // both, with interrupts enabled
+        (0x12, Some(2), true),
+        // TX becomes empty
+        (0x10, None, true),
+        (0x2, Some(3), false),
+    ] {
+        assert_eq!(rt; uart.access(Access::Write(0x4, 0x41)), Ok(0));
+        assert_eq!(rt; uart.access(Access::Write(0xC, control)), Ok(0));
+        assert_eq!(rt; uart.cycle(next), Some(0x41), "control {control}");
+        assert_eq!(rt; uart.line(), edges, "control {control}");
+    }
+    Ok(())
+}
+
+#[test]
 fn an_edge_is_held_until_it_is_asked_for(rt: HostRuntime) -> Result<(), Fail> {
     let mut uart = Uart::new(rt.alloc())?;
     assert_eq!(rt; uart.cycle(Some(6)), None);

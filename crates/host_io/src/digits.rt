@@ -1,6 +1,6 @@
 //! Numbers as upper-case hexadecimal digits.
 ghost use Rattle.std.specs.Prelude.{◌≡◌, ◌<◌};
-ghost use Rattle.run_journal.specs.Digits.{hex_digit, hex_of, hex_of_byte};
+ghost use Rattle.host_io.specs.Digits.{hex_16, hex_digit, hex_of, hex_of_byte};
 
 /// A word as eight upper-case hexadecimal digits, the most significant first.
 #[tactic(auto, unfolding(crate::specs::Digits::hex_of))]
@@ -16,6 +16,20 @@ pub fn hex_of(word: u32) -> [u8; 8]
         hex_digit(word >> 8 & 15),
         hex_digit(word >> 4 & 15),
         hex_digit(word & 15),
+    ]
+}
+
+/// 16 bits as four upper-case hexadecimal digits, the most significant first.
+#[tactic(auto, unfolding(crate::specs::Digits::hex_16))]
+pub fn hex_16(value: u16) -> [u8; 4]
+    ensures { result ≡ hex_16 value }
+{
+    let value = u32::from(value);
+    [
+        hex_digit(value / 0x1000 % 16),
+        hex_digit(value / 0x100 % 16),
+        hex_digit(value / 0x10 % 16),
+        hex_digit(value % 16),
     ]
 }
 

@@ -15,6 +15,10 @@ hex_of word =
     digit_at word 28 ∷ digit_at word 24 ∷ digit_at word 20 ∷ digit_at word 16
     ∷ digit_at word 12 ∷ digit_at word 8 ∷ digit_at word 4 ∷ digit_at word 0 ∷ []
 
+-- 16 bits as four digits
+unfoldable pub hex_16 : ℕ → List ℕ
+hex_16 n = hex_digit (n / 2 ^ 12 % 16) ∷ hex_digit (n / 2 ^ 8 % 16) ∷ hex_digit (n / 2 ^ 4 % 16) ∷ hex_digit (n % 16) ∷ []
+
 -- a byte as two digits, the most significant first
 unfoldable pub hex_of_byte : ℕ → List ℕ
 hex_of_byte byte = digit_at byte 4 ∷ digit_at byte 0 ∷ []
