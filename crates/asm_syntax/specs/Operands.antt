@@ -1,5 +1,5 @@
 -- Operands: how each is written, and what it reads as.
-use Rattle.std.specs.Prelude.{ℕ, ◌-◌, ◌^◌, nat_lt, Bool, ◌&&◌, List, [], ◌∷◌, ◌++◌, if◌then◌else◌, Option, None, Some, ℤ, pos, negsuc, bytes_eq, codes, find, decimal}
+use Rattle.std.specs.Prelude.{ℕ, ◌-◌, ◌^◌, nat_lt, Bool, ◌&&◌, List, ◌∷◌, ◌++◌, if◌then◌else◌, Option, None, Some, ℤ, pos, negsuc, bytes_eq, codes, find, decimal}
 use Rattle.std.specs.Fmt.{signed_decimal}
 use Rattle.std.specs.Option.{option_map}
 use Rattle.std.specs.List.{range_with_len}
