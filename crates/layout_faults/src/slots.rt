@@ -39,13 +39,7 @@ fn note_in_slot(first: &mut First, branch: Written, w: Written, long: bool)
 }
 
 /// Notes what is wrong with the slot of item `k`.
-pub fn note_slot(
-    first: &mut First,
-    all: &[Written],
-    places: &[u64],
-    grown: &[bool],
-    k: usize,
-)
+pub fn note_slot(first: &mut First, all: &[Written], places: &[u64], grown: &[bool], k: usize)
     requires within { k < length all.now }
     requires room { length places.now ≡ length all.now + 1 }
     requires same { length grown.now ≡ length all.now }

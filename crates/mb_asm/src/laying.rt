@@ -37,10 +37,6 @@ pub fn lay(alloc: Global, all: &[Written]) -> Result<Laid, NoMemory>
     let list = pieces_of(alloc, all)?;
     let mut grown = vec![in alloc; false; all.len()]?;
     let mut places = vec![in alloc; 0u64; all.len() + 1]?;
-    grow(
-        list.as_slice(),
-        grown.as_mut_slice(),
-        places.as_mut_slice(),
-    );
+    grow(list.as_slice(), grown.as_mut_slice(), places.as_mut_slice());
     Ok(Laid { places, grown })
 }

@@ -11,7 +11,14 @@ fn assembled(alloc: Global, source: &[u8], order: Order) -> Result<Assembled, As
 }
 
 /// Whether a source is one part at this address with these first bytes, so many in all.
-fn is_part(alloc: Global, source: &[u8], order: Order, addr: u32, first: &[u8], count: usize) -> bool {
+fn is_part(
+    alloc: Global,
+    source: &[u8],
+    order: Order,
+    addr: u32,
+    first: &[u8],
+    count: usize,
+) -> bool {
     match assembled(alloc, source, order) {
         Ok(Assembled { image, .. }) => match image.parts.as_slice() {
             [part] => {
@@ -97,7 +104,10 @@ fn entries_and_lines_are_told(rt: HostRuntime) {
             assert!(rt; lines.len() == 3, "{}", lines.len());
             for (k, addr, line) in [(0usize, 0u32, 1u32), (1, 8, 4), (2, 12, 4)] {
                 let told = lines.get(k);
-                assert!(rt; matches!(told, Some(l) if l.addr == addr && l.line == line), "{k}");
+                assert!(rt;
+                    matches!(told, Some(l) if l.addr == addr && l.line == line),
+                    "{k}"
+                );
             }
         }
         Err(_) => assert!(rt; false, "memory"),
