@@ -1,5 +1,5 @@
 -- The labels of a line stand before its statement, each a name and a colon.
-use Rattle.std.specs.Prelude.{ℕ, ◌+◌, ◌-◌, ◌^◌, nat_lt, Bool, true, false, List, [], ◌∷◌, ◌++◌, Option, None, Some, is_some, if◌then◌else◌, bytes_eq, fold}
+use Rattle.std.specs.Prelude.{ℕ, ◌+◌, ◌-◌, ◌^◌, nat_lt, Bool, true, false, List, [], ◌∷◌, ◌++◌, Some, is_some, if◌then◌else◌, bytes_eq}
 use Rattle.mb_lex.specs.Lexemes.{Lexeme, Word, Colon, Placed}
 use Rattle.asm_source.specs.declared.fault.Fault.{Fault}
 use Rattle.asm_source.specs.declared.fault.Rule.{Rule}

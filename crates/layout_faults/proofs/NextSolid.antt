@@ -1,5 +1,5 @@
 -- The next item that has bytes or begins a part.
-use Rattle.std.proofs.Common.{◌≡◌, ℕ, zero, suc, ◌+◌, ◌-◌, ◌<◌, ◌≤◌, Bool, true, false, List, length, get_or, Option, None, Some, refl, sym, ap, ◌∙◌, arith, add-one}
+use Rattle.std.proofs.Common.{◌≡◌, ℕ, suc, ◌+◌, ◌-◌, ◌<◌, ◌≤◌, true, false, List, length, None, Some, refl, arith}
 use Rattle.asm_layout.specs.Layout.{Numbers}
 use Rattle.asm_source.specs.declared.item.Written.{Written}
 use Rattle.asm_source.specs.Second.{is_solid, next_solid}

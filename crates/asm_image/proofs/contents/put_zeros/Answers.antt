@@ -1,5 +1,3 @@
-use Rattle.std.proofs.Common.{◌≡◌, ◌-◌, ◌++◌, ap, arith}
-use Rattle.std.specs.Prelude.{replicate}
 use Rattle.asm_image.proofs.Holding.{all_zeros, zero_more}
 use Rattle.asm_image.proofs.contents.put_zeros.Goals as goal
 

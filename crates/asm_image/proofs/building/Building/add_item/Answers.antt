@@ -1,4 +1,4 @@
-use Rattle.std.proofs.Common.{◌≡◌, ◌+◌, length, refl, sym, ap, subst, ◌∙◌, arith, None}
+use Rattle.std.proofs.Common.{◌≡◌, ◌+◌, length, refl, sym, ap, subst, ◌∙◌, arith}
 use Rattle.asm_layout.specs.Places.{ArePlaces, member}
 use Rattle.asm_source.specs.Items.{pieces}
 use Rattle.asm_source.specs.Second.{items_of}

@@ -1,4 +1,4 @@
-use Rattle.std.proofs.Common.{◌≤◌, ◌+◌, drop, length, sym, ◌∙◌, arith}
+use Rattle.std.proofs.Common.{◌≤◌, drop, length, sym, ◌∙◌, arith}
 use Rattle.asm_reading.specs.Tables.{labels_in}
 use Rattle.asm_reading.proofs.Names.{behind_more, behind_none, fault_more, few_behind, few_names, label_more, no_name, none_defined, none_noted, short}
 use Rattle.asm_reading.proofs.labels.Marked.add_labels.Goals as goal

@@ -1,5 +1,5 @@
 use Rattle.std.proofs.Common.{◌+◌, sym, ap, ◌∙◌, arith}
-use Rattle.asm_source.specs.Second.{is_part, written}
+use Rattle.asm_source.specs.Second.{is_part}
 use Rattle.asm_source.specs.declared.item.Written.{Written}
 use Rattle.layout_faults.proofs.Spanning.{span_more, span_same}
 use Rattle.layout_faults.proofs.parts.Spans.pass.Goals as goal
