@@ -13,4 +13,4 @@ pub use law::{
     distances_are_local, growing_is_least, growing_is_unique, least_closed_set_is_another,
 };
 pub use piece::{Alignment, Piece};
-pub use places::{have_labels, lay_out};
+pub use places::{lay_out, place_at};

@@ -1,22 +1,17 @@
-ghost use Rattle.std.specs.Prelude.{◌≡◌, ◌↔◌, ◌+◌, ◌*◌, ◌<◌, ◌≤◌, ◌^◌, IsTrue, length, nat_le};
-ghost use Rattle.std.specs.List.{list_all};
-ghost use Rattle.asm_layout.specs.Layout.{label_of};
-ghost use Rattle.asm_layout.specs.Places.{AreBelow, ArePlaces, HaveLabels, member};
+ghost use Rattle.std.specs.Prelude.{◌≡◌, ◌+◌, ◌*◌, ◌<◌, ◌≤◌, ◌^◌, List, ℕ, length};
+ghost use Rattle.asm_layout.specs.declared.piece.Piece.{Piece};
+ghost use Rattle.asm_layout.specs.Layout.{Numbers, place};
+ghost use Rattle.asm_layout.specs.Places.{AreBelow, ArePlaces, member};
 
 use crate::piece::Piece;
 
-/// Whether no label stands before a piece of a greater number.
-fn labels_are_within(pieces: &[Piece], last: usize) -> bool
-    ensures { result ≡ list_all (λ p. nat_le (label_of p) last) pieces.now }
+/// The place of the label before piece `k`, in the layout whose places these are. Behind the last piece all stand at its end.
+pub fn place_at(places: &[u64], k: usize) -> u64
+    requires { 0 < length places.now }
+    ensures place { (all : List Piece) (F : Numbers) → length places.now ≡ length all + 1 → ArePlaces all F (length all) places.now → result ≡ place all F k }
+    ensures below { (n : ℕ) → length places.now ≡ n + 1 → AreBelow n places.now → result < 2 ^ 62 }
 {
-    pieces.iter().all(|piece| piece.label() <= last)
-}
-
-/// Whether each label stands before a piece, or behind the last.
-pub fn have_labels(pieces: &[Piece]) -> bool
-    ensures { IsTrue result ↔ HaveLabels pieces.now }
-{
-    labels_are_within(pieces, pieces.len())
+    places[k.min(places.len() - 1)]
 }
 
 /// Lays out the pieces: the place before each, and the place behind the last.

@@ -1,4 +1,4 @@
-use crate::{Alignment, Piece, grow, have_labels};
+use crate::{Alignment, Piece, grow};
 
 /// A branch by the distance to the label before a piece.
 fn branch(label: usize) -> Piece {
@@ -44,16 +44,15 @@ fn sources_grow_as_worked_out_by_hand(rt: HostRuntime) {
             [true, true, false, false, false], [0, 8, 16, 32772, 32776, 32780]),
         ("both in one turn", [address(3), branch(3), Piece::Org(32772), word, none],
             [true, true, false, false, false], [0, 8, 16, 32772, 32776, 32776]),
+        ("a label behind the end", [branch(9), Piece::Bytes(32760), none, none, none],
+            [false, false, false, false, false], [0, 4, 32764, 32764, 32764, 32764]),
         ("padding behind a label", [Piece::Bytes(1), Piece::Align(Alignment::Four), branch(1), Piece::Align(Alignment::Sixteen), none],
             [false, false, false, false, false], [0, 1, 4, 8, 16, 16]),
     ] {
         let mut grown = [false; 5];
         let mut places = [0; 6];
-        assert!(rt; have_labels(&pieces), "{name}");
         grow(&pieces, &mut grown, &mut places);
         assert!(rt; grown == marks, "{name}: {grown:?}");
         assert!(rt; places == stand, "{name}: {places:?}");
     }
-    let astray = [branch(2)];
-    assert!(rt; !have_labels(&astray), "a label past the end");
 }

@@ -1,4 +1,5 @@
 pub mod Adding
+pub mod Covering
 pub mod Munches
 pub mod Numerals
 pub mod Starts

@@ -2,3 +2,4 @@ pub mod Bytes
 pub mod Lexemes
 pub mod Literals
 pub mod Lines
+pub mod Slices

@@ -2,6 +2,7 @@
 #![tactic(auto)]
 
 mod bytes;
+mod law;
 mod lexer;
 mod munching;
 mod numbers;
@@ -10,5 +11,6 @@ mod tests;
 mod text;
 mod token;
 
+pub use law::tokens_cover_the_line;
 pub use lexer::{lex_line, lex_start};
 pub use token::{LexFault, LexRule, Lexed, Token, TokenKind, Tokens};

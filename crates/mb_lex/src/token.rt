@@ -81,6 +81,14 @@ impl Tokens {
         self.items.len()
     }
 
+    /// All of them in order.
+    pub fn as_slice(&self) -> &[Token]
+        ensures same { result.now ≡ self.now }
+        ensures few { length result.now ≤ 40 }
+    {
+        self.items.as_slice()
+    }
+
     /// The token at a place, counted from 0; None past the last.
     pub fn get(&self, k: usize) -> Option<Token>
         ensures { result ≡ slice_get self.now k }

@@ -1,0 +1,5 @@
+pub mod Defining
+pub mod Following
+pub mod LineByLine
+pub mod Names
+pub mod OneLine

@@ -1,0 +1,3 @@
+pub mod NextSolid
+pub mod Noting
+pub mod Spanning

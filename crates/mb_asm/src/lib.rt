@@ -1,0 +1,20 @@
+//! Assembles a source: the image, and the line of each of its instruction words, or its first fault.
+//!
+//! ```text
+//! match assemble(alloc, source, Order::Big) {
+//!     Ok(assembled) => write_elf(alloc, &assembled.image),
+//!     Err(AsmFault::Refused { code, line, column }) => ..
+//! }
+//! ```
+#![tactic(auto)]
+
+mod answer;
+mod assembling;
+mod laying;
+#[cfg(test)]
+mod tests;
+mod word_lines;
+
+pub use answer::{AsmFault, Assembled};
+pub use assembling::assemble;
+pub use word_lines::{Line, Lines};
