@@ -168,5 +168,5 @@ impl Core for AnyCore {
         }
     }
 
-    ghost split = { λ core. elim core as (λ c. IsSplit (any_state c)) [ | Plain c ↦ refl | Three c ↦ refl | Five c ↦ refl | Eight c ↦ refl ] };
+    ghost split = { λ core. elim core as (λ c. IsSplit (any_state c)) [ Plain c ↦ refl | Three c ↦ refl | Five c ↦ refl | Eight c ↦ refl ] };
 }

@@ -151,7 +151,14 @@ fn the_last_value_is_sent(rt: HostRuntime) -> Result<(), Fail> {
 #[test]
 fn a_result_lands_after_the_depth_of_the_pipeline(rt: HostRuntime) -> Result<(), Fail> {
     // addik r3, r0, 3, and words that write nothing
-    let words = [0x3060_0003, 0x8000_0000, 0x8000_0000, 0x8000_0000, 0x8000_0000, 0x8000_0000];
+    let words = [
+        0x3060_0003,
+        0x8000_0000,
+        0x8000_0000,
+        0x8000_0000,
+        0x8000_0000,
+        0x8000_0000,
+    ];
     for (pipe, depth) in PIPES {
         let mut core = made(rt.alloc(), pipe, &words)?;
         let mut ports = BenchPorts::new();
@@ -160,7 +167,14 @@ fn a_result_lands_after_the_depth_of_the_pipeline(rt: HostRuntime) -> Result<(),
             let _ = tick(&mut core, &mut ports)?;
         }
         for age in 0..depth {
-            assert_eq!(rt; core.flight(0), Some(Flight { reg: 3, value: 3, age }));
+            assert_eq!(rt;
+                core.flight(0),
+                Some(Flight {
+                    reg: 3,
+                    value: 3,
+                    age
+                })
+            );
             assert_eq!(rt; (core.file(3), core.arch().regs[3]), (0, 3));
             answers(&rt, &mut core, &mut ports, &[RETIRED])?;
         }
