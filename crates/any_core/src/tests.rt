@@ -102,6 +102,17 @@ fn counted(core: &mut AnyCore, ports: &mut BenchPorts) -> Result<u64, Fail> {
     Err("no end".into())
 }
 
+/// Ticks of a core up to its first act.
+fn first_act(core: &mut AnyCore, ports: &mut BenchPorts) -> Result<(), Fail> {
+    for _ in 0..10u32 {
+        if core.acts() != 0 {
+            return Ok(());
+        }
+        let _ = tick(core, ports)?;
+    }
+    Err("no act".into())
+}
+
 /// Ticks of a core, each of which must give its answer.
 fn answers(
     rt: &impl Abort,
@@ -163,9 +174,7 @@ fn a_result_lands_after_the_depth_of_the_pipeline(rt: HostRuntime) -> Result<(),
         let mut core = made(rt.alloc(), pipe, &words)?;
         let mut ports = BenchPorts::new();
         assert_eq!(rt; (core.past().pipe, core.depth()), (pipe, depth));
-        while core.acts() == 0 && core.ticks() < 10 {
-            let _ = tick(&mut core, &mut ports)?;
-        }
+        first_act(&mut core, &mut ports)?;
         for age in 0..depth {
             assert_eq!(rt;
                 core.flight(0),
