@@ -1,5 +1,13 @@
 pub mod Lists
 pub mod Steps
+pub mod Journals
+pub mod DeviceSteps
+pub mod Lasting
+pub mod Lines
+pub mod Alike
+pub mod Refusing
+pub mod LinesTold
+pub mod Alone
 pub mod Waits
 pub mod Tells
 pub mod Turns

@@ -13,7 +13,7 @@ use Rattle.board_machine.specs.declared.events.RunEnd.TheVariants.{Rest as AtRes
 use Rattle.board_machine.specs.Cycles.{end_at, end_of}
 use Rattle.board_machine.specs.Fabric.{Fabric}
 use Rattle.board_machine.specs.World.{CoreAt, World, need}
-use Rattle.board_machine.specs.Resting.{IsRestBy, SomeStopped, SomeWaits, and_idle, idle_at, idle_here, is_quiet_to, joined, rest_of, rest_to}
+use Rattle.board_machine.specs.Resting.{IsRestBy, SomeStopped, SomeWaits, and_idle, idle_at, idle_here, is_outside_still, joined, rest_of, rest_to}
 use Rattle.board_machine.proofs.Lists.{last_or_before}
 
 -- one core more
@@ -178,7 +178,7 @@ rest_to_by w true r e = e
 rest_to_by w false r e = cc
 
 pub rest_by : (w : World) (r : Rest) → rest_of w ≡ Some r → IsRestBy w r
-rest_by w r e = told_by w r (told_to w (length w.cores) r (rest_to_by w (is_quiet_to w.fabric (length w.fabric.rows) && length w.fabric.left == 0) r e))
+rest_by w r e = told_by w r (told_to w (length w.cores) r (rest_to_by w (is_outside_still w.fabric) r e))
 
 -- the end of a run
 

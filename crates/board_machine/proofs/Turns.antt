@@ -1,21 +1,22 @@
 -- What a cycle leaves: each core ticks once at most.
-use Rattle.std.proofs.Common.{◌≡◌, ℕ, zero, suc, ◌+◌, ◌*◌, ◌-◌, ◌%◌, ◌^◌, ◌<◌, ◌≤◌, List, [], ◌∷◌, ◌++◌, length, Option, Some, None, refl, ap, sym, ◌∙◌, subst, inl, inr, ◌⊎◌, arith, slice_get, slice_set, length-set, Bool, true, false, cond, add-one, add-zero, ◌==◌}
+use Rattle.std.proofs.Common.{◌≡◌, ℕ, zero, suc, ◌+◌, ◌*◌, ◌-◌, ◌%◌, ◌^◌, ◌<◌, ◌≤◌, List, [], ◌∷◌, length, Option, Some, None, refl, ap, sym, ◌∙◌, subst, inl, inr, ◌⊎◌, arith, slice_get, length-set, Bool, true, false, add-zero, ◌==◌}
 use Rattle.std.proofs.lemmas.Bool.{cases_eq, eq-eqb}
 use Rattle.std.proofs.lemmas.Bool.Decides.{nat_tests}
 use Rattle.std.proofs.lemmas.Option.{same_Some}
-use Rattle.board_machine.specs.declared.events.Event.{Event}
-use Rattle.board_machine.specs.declared.events.Event.TheVariants.{Devices, Host, Tick, Next}
+use Rattle.board_machine.specs.declared.events.Event.TheVariants.{Devices, Host, Next}
 use Rattle.board_file.specs.declared.board.Turn.{Turn}
 use Rattle.board_file.specs.declared.board.Turn.TheVariants.{Ascending, Descending, Rotating}
 use Rattle.board_machine.specs.declared.events.RunEnd.{RunEnd}
 use Rattle.board_machine.specs.declared.events.RunEnd.TheVariants.{Rest as AtRest, CyclesSpent}
 use Rattle.board_machine.specs.declared.events.Rest.{Rest}
 use Rattle.isa_step.specs.Due.{due}
-use Rattle.board_machine.specs.Fabric.{Fabric, shown, host_moves, breaks_come}
-use Rattle.board_machine.specs.World.{World, CoreAt, Schedule, Step, Steps, TickStep, need}
+use Rattle.board_machine.specs.Fabric.{shown, host_moves}
+use Rattle.board_machine.specs.World.{World, CoreAt, Schedule, devices_done, Step, Steps, TickStep, need}
 use Rattle.board_machine.specs.Cycles.{core_at, rotated, core_of_turn, turn_of, turns, ticks_where, divides, events_of, cycles_of, Cycles, Runs, RunsTo, CanCycle, CanRun, end_at, end_of}
 use Rattle.board_machine.specs.Resting.{rest_of}
-use Rattle.board_machine.proofs.Steps.{steps_split, steps_append, steps_push, Enters, Ticked, ticked, moves_enter}
+use Rattle.board_machine.proofs.Steps.{steps_split, steps_append, steps_push, Ticked, ticked, moves_enter}
+use Rattle.board_file.specs.declared.board.LinkRow.{LinkRow}
+use Rattle.board_machine.proofs.DeviceSteps.{done_enters}
 use Rattle.board_machine.proofs.Lists.{slice_get_set_same, slice_get_set_other}
 
 rotated_apart : (first n j k : ℕ) → first < n → j < n → k < n → rotated first n j ≡ rotated first n k → j ≡ k
@@ -32,27 +33,37 @@ pub record Amid (old w : World) (k : ℕ) : Type 0 where
   pub cores : length w.cores ≡ length old.cores
   pub schedule : w.schedule ≡ old.schedule
   pub cycle : w.fabric.cycle ≡ old.fabric.cycle
-  pub lines : w.fabric.lines ≡ old.fabric.lines
-  pub devices : w.fabric.devices ≡ old.fabric.devices
-  pub spare : old.fabric.spare ≤ w.fabric.spare + length old.fabric.rows + 2 * k
+  pub bus : w.fabric.bus ≡ old.fabric.bus
+  pub spare : old.fabric.spare ≤ w.fabric.spare + length old.fabric.bus.uarts + length old.cores + length old.fabric.rows + 2 * k
   pub coming : (j : ℕ) → k ≤ j → j < length old.schedule.clocks → slice_get w.cores (core_of_turn old.schedule old.fabric.cycle j) ≡ slice_get old.cores (core_of_turn old.schedule old.fabric.cycle j)
   pub ticks : (i : ℕ) (s : CoreAt) → slice_get w.cores i ≡ Some s → (r : CoreAt) × (slice_get old.cores i ≡ Some r) × (s.ticks ≤ r.ticks + 1)
 
-after_host : World → World
-after_host w = record w { fabric = host_moves (breaks_come w.fabric) (length w.fabric.rows) }
+devices_then : World → World
+devices_then w = record w { fabric = devices_done w.cores w.fabric }
 
-host_amid : (old : World) → Amid old (after_host old) 0
-unfolding after_host
+host_then : World → World
+host_then w = record w { fabric = host_moves w.fabric (length w.fabric.rows) }
+
+host_amid : (old : World) → Amid old (host_then (devices_then old)) 0
+unfolding devices_then host_then
 host_amid old =
-    let m = moves_enter (breaks_come old.fabric) (length old.fabric.rows) in
-    record { rows = m.rows; cores = refl; schedule = refl; cycle = m.cycle; lines = m.lines; devices = m.devices; spare = omega (arith, m.spare); coming = λ j le lt. refl; ticks = λ i s q. (s, q, omega arith) }
-
-host_done : World → World
-host_done w = record w { fabric = host_moves w.fabric (length w.fabric.rows) }
+    let d = done_enters old.cores old.fabric in
+    let f = devices_done old.cores old.fabric in
+    let m = moves_enter f (length f.rows) in
+    record {
+      rows = m.rows ∙ d.rows;
+      cores = refl;
+      schedule = refl;
+      cycle = m.cycle ∙ d.cycle;
+      bus = m.bus ∙ d.bus;
+      spare = omega (arith, m.spare, d.spare, ap (λ (rows : List LinkRow). length rows) d.rows);
+      coming = λ j le lt. refl;
+      ticks = λ i s q. (s, q, omega arith);
+    }
 
 amid_host : (old w : World) → Steps old (Devices ∷ Host ∷ []) w → Amid old w 0
-unfolding after_host host_done
-amid_host old w h = subst (λ w. Amid old w 0) (sym (h.2.2 ∙ subst (λ (m : World). h.2.0 ≡ host_done m) h.1 h.2.1)) (host_amid old)
+unfolding devices_then host_then
+amid_host old w h = subst (λ w. Amid old w 0) (sym (h.2.2 ∙ subst (λ (m : World). h.2.0 ≡ host_then m) h.1 h.2.1)) (host_amid old)
 
 ticks_at : (old w v : World) (core : ℕ) (h : TickStep core w v) → Ticked h.was w.fabric h.is v.fabric → slice_get w.cores core ≡ slice_get old.cores core → ((i : ℕ) (s : CoreAt) → slice_get w.cores i ≡ Some s → (r : CoreAt) × (slice_get old.cores i ≡ Some r) × (s.ticks ≤ r.ticks + 1)) → (i : ℕ) (s : CoreAt) → (i ≡ core) ⊎ (i ≡ core → ⊥) → slice_get v.cores i ≡ Some s → (r : CoreAt) × (slice_get old.cores i ≡ Some r) × (s.ticks ≤ r.ticks + 1)
 ticks_at old w v core h t first ticks i s (inl e) q =
@@ -69,8 +80,7 @@ amid_tick old w v k l a h =
       cores = ap length h.cores ∙ length-set w.cores core h.is ∙ a.cores;
       schedule = h.schedule ∙ a.schedule;
       cycle = t.enters.cycle ∙ a.cycle;
-      lines = t.enters.lines ∙ a.lines;
-      devices = t.enters.devices ∙ a.devices;
+      bus = t.enters.bus ∙ a.bus;
       spare = omega (arith, t.enters.spare, a.spare);
       coming = λ j le lt.
           let other = core_of_turn old.schedule old.fabric.cycle j in
@@ -85,8 +95,7 @@ amid_same old w k a = record {
   cores = a.cores;
   schedule = a.schedule;
   cycle = a.cycle;
-  lines = a.lines;
-  devices = a.devices;
+  bus = a.bus;
   spare = omega (arith, a.spare);
   coming = λ j le lt. a.coming j (omega (arith, le)) lt;
   ticks = a.ticks;

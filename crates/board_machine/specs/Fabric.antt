@@ -1,5 +1,6 @@
--- All of a board but its cores: links, files, breaks, lines and the journal; and what an entry leaves of it.
+-- All of a board but its cores: links, files, devices, breaks, lines and the journal; and what an entry leaves of it.
 use Rattle.std.specs.Prelude.{◌≡◌, ℕ, zero, suc, ◌+◌, ◌-◌, ◌==◌, ◌&&◌, ◌||◌, not, Bool, true, false, if◌then◌else◌, List, [], ◌∷◌, ◌++◌, Option, Some, None, slice_get, slice_set, position, nat_lt, filter}
+use Rattle.std.specs.Option.{is_some}
 use Rattle.std.specs.List.{fold, list_any}
 use Rattle.axi_link.specs.declared.item.Item.{Item}
 use Rattle.axi_link.specs.Channel.{Channel, has_room, oldest, with_newest, without_oldest}
@@ -16,7 +17,7 @@ use Rattle.isa_step.specs.Shown.{Shown}
 use Rattle.isa_step.specs.Deeds.{Deed}
 use Rattle.run_journal.specs.declared.entry.Entry.{Entry}
 use Rattle.run_journal.specs.declared.entry.What.{What}
-use Rattle.run_journal.specs.declared.entry.What.TheVariants.{Got, Sent, Seen, Room, Missed, Read, ReadRefused, Wrote, WriteRefused, Took, Raised, Slept, Stopped, Wait, HostSent, HostGot}
+use Rattle.run_journal.specs.declared.entry.What.TheVariants.{Got, Sent, Seen, Room, Missed, Read, ReadRefused, Wrote, WriteRefused, Took, Raised, Slept, Stopped, Wait, LineUp, LineDown, HostSent, HostGot}
 use Rattle.board_file.specs.declared.board.End.{End}
 use Rattle.board_file.specs.declared.board.End.TheVariants.{Port, File}
 use Rattle.board_machine.specs.declared.events.HostPart.{HostPart}
@@ -24,28 +25,21 @@ use Rattle.board_machine.specs.declared.events.HostPart.TheVariants.{Sends, Take
 use Rattle.board_file.specs.declared.board.EventRow.{EventRow}
 use Rattle.board_file.specs.declared.board.IntcRow.{IntcRow}
 use Rattle.board_file.specs.declared.board.LinkRow.{LinkRow}
-
--- the list with one element changed
-abbrev pub set_some : {X : Type 0} → List X → ℕ → (X → X) → Option X → List X
-set_some xs k f None = xs
-set_some xs k f (Some x) = slice_set xs k (f x)
-
-abbrev pub touch : {X : Type 0} → (X → X) → ℕ → List X → List X
-touch f k xs = set_some xs k f (slice_get xs k)
+use Rattle.bus_map.specs.declared.device.Access.TheVariants.{Read as ReadAt, Write as WriteAt}
+use Rattle.board_machine.specs.Places.{touch}
+use Rattle.board_machine.specs.Bus.{DeviceRows, Devices, accessed_at, answer_at, offset_in, spot_at}
 
 -- the input file of a link: its items, and how many of them went into the link
 pub record Feed : Type 0 where
   pub items : List Item
   pub place : ℕ
 
--- the devices of a board: so far only who has an interrupt controller
-pub record Devices : Type 0 where
-  pub intcs : List IntcRow
-
--- the rows of the links, the cycle number, the links, their input files, the devices, the latched interrupt lines and
--- the pending breaks of each core, the breaks that are left, the journal, and how many more entries it has room for
+-- the rows of the links and of the devices, the cycle number, the links, their input files, the devices, the latched
+-- interrupt lines and the pending breaks of each core, the breaks that are left, the journal, and how many more entries
+-- it has room for
 pub record Fabric : Type 0 where
   pub rows : List LinkRow
+  pub bus : DeviceRows
   pub cycle : ℕ
   pub links : List Channel
   pub feeds : List Feed
@@ -104,7 +98,7 @@ abbrev pub breaks_at : Fabric → ℕ → Breaks
 breaks_at f core = or_none (slice_get f.pending core)
 
 abbrev pub has_controller : Fabric → ℕ → Bool
-has_controller f core = list_any (is_on core) f.devices.intcs
+has_controller f core = list_any (is_on core) f.bus.intcs
 
 -- what can still come: whether the core has a controller, and of each kind of break whether one is pending or left
 abbrev pub hopes_at : Fabric → ℕ → Hopes
@@ -118,7 +112,7 @@ hopes_at f core = record {
 abbrev pub line_at : Fabric → ℕ → Bool
 line_at f core = has_controller f core && or_low (slice_get f.lines core)
 
--- what the ports of a core show; without devices the bus refuses each access
+-- what the ports of a core show
 abbrev pub shown : Fabric → ℕ → Shown
 shown f core = record {
   line = line_at f core;
@@ -126,8 +120,8 @@ shown f core = record {
   hopes = hopes_at f core;
   first = λ port. first_in (channel_at f.links (link_to f.rows core port));
   room = λ port. room_in (channel_at f.links (link_from f.rows core port));
-  bus_word = λ addr. None;
-  bus_takes = λ addr word. false;
+  bus_word = λ addr. answer_at f.devices (ReadAt (offset_in addr)) (spot_at f.bus core addr);
+  bus_takes = λ addr word. is_some (answer_at f.devices (WriteAt (offset_in addr) word) (spot_at f.bus core addr));
 }
 
 -- what an entry leaves
@@ -161,6 +155,22 @@ abbrev pub pending_after : ℕ → What → List Breaks → List Breaks
 pending_after core (Took t) pending = touch (cleared t) core pending
 pending_after core _ pending = pending
 
+-- an access to the bus changes the device that answers it
+abbrev pub devices_after : DeviceRows → ℕ → What → Devices → Devices
+devices_after bus core (Read addr word) devices = accessed_at devices (ReadAt (offset_in addr)) (spot_at bus core addr)
+devices_after bus core (Wrote addr word) devices = accessed_at devices (WriteAt (offset_in addr) word) (spot_at bus core addr)
+devices_after bus core _ devices = devices
+
+-- where a line is latched
+abbrev pub line_told : What → Option Bool
+line_told LineUp = Some true
+line_told LineDown = Some false
+line_told _ = None
+
+abbrev pub line_set : ℕ → Option Bool → List Bool → List Bool
+line_set core None lines = lines
+line_set core (Some high) lines = slice_set lines core high
+
 abbrev pub entry_of : ℕ → ℕ → ℕ → What → Entry
 entry_of cycle core act what = record { cycle = cycle; core = core; act = act; what = what }
 
@@ -174,6 +184,8 @@ entered core act what f = record (noted core act what f) {
   links = links_after f.rows core what f.links;
   feeds = feeds_after what f.feeds;
   pending = pending_after core what f.pending;
+  devices = devices_after f.bus core what f.devices;
+  lines = line_set core (line_told what) f.lines;
 }
 
 abbrev pub entered_some : ℕ → ℕ → Option What → Fabric → Fabric

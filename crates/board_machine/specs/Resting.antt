@@ -1,9 +1,10 @@
 -- When nothing can happen on a board any more.
 use Rattle.std.specs.Prelude.{◌≡◌, ◌↔◌, ℕ, zero, suc, ◌&&◌, Bool, true, if◌then◌else◌, List, [], ◌++◌, length, map, Option, Some, None, slice_get, is_none, false, ◌==◌}
 use Rattle.std.specs.Option.{is_some, option_and_then}
-use Rattle.std.specs.List.{AllByRecursion, flat_map}
+use Rattle.std.specs.List.{AllByRecursion, list_all}
 use Rattle.core_regs.specs.declared.causes.StopCause.{StopCause}
 use Rattle.core_regs.specs.declared.causes.WaitOn.{WaitOn}
+use Rattle.board_machine.specs.Bus.{is_done}
 use Rattle.isa_step.specs.declared.acts.Idle.{Idle}
 use Rattle.isa_step.specs.declared.acts.Idle.TheVariants as idle
 use Rattle.isa_step.specs.Resting.{idle_view}
@@ -23,11 +24,12 @@ idle_here f core (Some s) = idle_view s.view (shown f core)
 abbrev pub idle_at : World → ℕ → Option Idle
 idle_at w core = idle_here w.fabric core (slice_get w.cores core)
 
--- each core is idle, no item can move by the host, and no break is left
+-- each core is idle, no item can move by the host, no break is left, and each UART is done
 pub record Still (w : World) : Type 0 where
   pub cores : (core : ℕ) (s : CoreAt) → slice_get w.cores core ≡ Some s → is_some (idle_at w core) ≡ true
   pub links : (link : ℕ) → move_of w.fabric link ≡ None
   pub breaks : w.fabric.left ≡ []
+  pub uarts : list_all is_done w.fabric.devices.uarts ≡ true
 
 -- a core more: the rest is Stopped where a core stopped, else Waiting where a core waits, else Ended
 abbrev pub joined : Rest → Idle → Rest
@@ -71,9 +73,13 @@ abbrev pub is_quiet_to : Fabric → ℕ → Bool
 is_quiet_to f zero = true
 is_quiet_to f (suc k) = is_quiet_to f k && is_none (move_of f k)
 
+-- nothing of the board but its cores can go on by itself, timers and lines aside
+abbrev pub is_outside_still : Fabric → Bool
+is_outside_still f = is_quiet_to f (length f.rows) && (length f.left == 0) && list_all is_done f.devices.uarts
+
 -- the rest of the board, None where it is not still
 abbrev pub rest_of : World → Option Rest
-rest_of w = if is_quiet_to w.fabric (length w.fabric.rows) && (length w.fabric.left == 0) then rest_to w (length w.cores) else None
+rest_of w = if is_outside_still w.fabric then rest_to w (length w.cores) else None
 
 -- entries that tell of no act and move no item
 abbrev pub is_note : What → Bool

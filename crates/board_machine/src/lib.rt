@@ -15,5 +15,7 @@
 #![tactic(auto)]
 
 mod events;
+mod parts;
 
 pub use events::{Event, HostPart, Rest, RunEnd};
+pub use parts::Spot;

@@ -11,13 +11,12 @@ use Rattle.isa_step.specs.Due.{due}
 use Rattle.isa_step.specs.declared.acts.Idle.{Idle}
 use Rattle.isa_step.specs.Resting.{IsHoped, idle_due, idle_view}
 use Rattle.isa_step.proofs.RestLaws.{idle_lasts}
-use Rattle.run_journal.specs.declared.entry.What.{What}
-use Rattle.run_journal.specs.declared.entry.What.TheVariants.{Wait}
 use Rattle.core_iface.specs.declared.Tick.{Tick}
 use Rattle.core_iface.specs.declared.Tick.TheVariants.{Acted, Filling, Waiting, Sleeping, Ended, Stopped}
 use Rattle.core_iface.specs.Cores.{CoreState, is_held}
 use Rattle.core_iface.specs.Ticks.{AloneOf, Ticks, TicksAlone, TickOf, is_view_quiet}
 use Rattle.prepared_act.specs.Retiring.{is_offered}
+use Rattle.board_machine.proofs.Lines.{act_line, some_lines, waited_by}
 use Rattle.board_machine.proofs.Staying.{hoped}
 use Rattle.board_machine.specs.Fabric.{Fabric, breaks_at, or_low, shown, entered, entered_some, entries_of_action, entry_of_act, entry_of_action, is_kept, waited}
 use Rattle.board_machine.specs.World.{CoreAt, TickMay}
@@ -213,18 +212,10 @@ pub tick_keeps : {P X : Type 0} {done : P → List Action} {spare : P → ℕ} {
 tick_keeps {done = done} {spare = spare} {leaves = leaves} {shown = shown} {answer = answer} {old = old} {new = new} {p = p} {q = q} part does h = kept_of done spare leaves part (due old.view shown) (is_held old shown) (is_view_quiet old.view shown) answer old p new q does h.does
 
 -- no answer changes the lines
-waited_lines : (core act : ℕ) (on : WaitOn) (f : Fabric) (kept : Bool) → (cond kept f (entered core act (Wait on) f)).lines ≡ f.lines
-waited_lines core act on f true = refl
-waited_lines core act on f false = refl
-
-some_lines : (core act : ℕ) (o : Option What) (f : Fabric) → (entered_some core act o f).lines ≡ f.lines
-some_lines core act None f = refl
-some_lines core act (Some what) f = refl
-
 pub answered_lines : (core act : ℕ) (answer : Tick) (f : Fabric) → (answered core act answer f).lines ≡ f.lines
-answered_lines core act (Acted a) f = some_lines core act (entry_of_act a) f
+answered_lines core act (Acted a) f = some_lines core act (entry_of_act a) f (act_line a)
 answered_lines core act Filling f = refl
-answered_lines core act (Waiting on) f = waited_lines core act on f (is_kept core act f.journal)
+answered_lines core act (Waiting on) f = waited_by core act on f (is_kept core act f.journal)
 answered_lines core act Sleeping f = refl
 answered_lines core act Ended f = refl
 answered_lines core act (Stopped why) f = refl

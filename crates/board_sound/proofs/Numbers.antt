@@ -1,21 +1,23 @@
 -- A number of a row is one of its quantity, and so is what stands for it where the file doesn't say.
-use Rattle.std.proofs.Common.{◌≡◌, ℕ, ℤ, pos, negsuc, Bool, true, false, List, Option, Some, None, unwrap_or, refl, arith}
+use Rattle.std.proofs.Common.{◌≡◌, ℕ, ◌<◌, ℤ, pos, negsuc, Bool, true, false, List, Option, Some, None, unwrap_or, refl, arith}
 use Rattle.std.specs.Option.{ok_or}
 use Rattle.std.specs.Result.{result_ok}
 use Rattle.toml.specs.Data.{Data, Members, as_integer}
 use Rattle.board_file.specs.Read.{file_at, is_board_name, is_number, name_of, judged, number_at, number_code, number_in, number_of, only_if, right}
-use Rattle.board_file.specs.Rows.{core_made, core_row, link_made, link_row}
+use Rattle.board_file.specs.Rows.{core_made, core_row, link_made, link_row, timer_made, timer_row, uart_made, uart_row}
 use Rattle.board_file.specs.Tree.{at_key}
 use Rattle.board_file.specs.declared.board.CoreRow.{CoreRow}
 use Rattle.board_file.specs.declared.board.End.{End}
 use Rattle.board_file.specs.declared.board.LinkRow.{LinkRow}
 use Rattle.board_file.specs.declared.board.Pipeline.{Pipeline}
+use Rattle.board_file.specs.declared.board.TimerRow.{TimerRow}
+use Rattle.board_file.specs.declared.board.UartRow.{UartRow}
 use Rattle.board_file.specs.declared.fault.BoardRule.{BoardRule}
 use Rattle.board_file.specs.declared.keys.Key.{Key}
 use Rattle.board_file.specs.declared.keys.Key.TheVariants as key
 use Rattle.board_file.specs.declared.keys.Quantity.{Quantity}
 use Rattle.board_file.specs.declared.keys.Quantity.TheVariants as quantity
-use Rattle.board_sound.specs.Sound.{IsClock, IsDepth, IsMemory}
+use Rattle.board_sound.specs.Sound.{IsClock, IsDepth, IsInput, IsMemory}
 
 picked : (holds : Bool) (code : BoardRule) (m n : ℕ) → result_ok (ok_or (only_if holds m) code) ≡ Some n → (holds ≡ true) × (m ≡ n)
 picked true code m n e = (refl, grind (arith, e))
@@ -124,3 +126,44 @@ unfolding link_row
 link_depth cores name ms link e =
     let made = made_link _ _ _ _ link e in
     depth_range link.depth (rw made.depth at (number_or quantity.Depth key.Depth ms 16 depth_default))
+
+-- a device's row has the numbers that it is made of
+
+input_range : (n : ℕ) → is_number quantity.Irq n ≡ true → n < 32
+unfolding is_number
+input_range n e = grind arith
+
+input_there : (ms : Members) (o : Option ℕ) → number_at quantity.Irq key.Irq ms ≡ o → IsInput o
+input_there ms None e = tt
+input_there ms (Some n) e = input_range n (number_there quantity.Irq key.Irq ms n e)
+
+turn_default : is_number quantity.Clock 64 ≡ true
+unfolding is_number
+turn_default = refl
+
+made_timer : (name : Option (List ℕ)) (core base irq : Option ℕ) (timer : TimerRow) → timer_made name core base irq ≡ Some timer → irq ≡ timer.irq
+made_timer (Some n) (Some c) (Some b) irq timer e = grind arith
+made_timer None c b irq timer e = grind arith
+made_timer (Some n) None b irq timer e = grind arith
+made_timer (Some n) (Some c) None irq timer e = grind arith
+
+pub timer_input : (cores : List CoreRow) (name : List ℕ) (ms : Members) (timer : TimerRow) → timer_row cores name ms ≡ Some timer → IsInput timer.irq
+unfolding timer_row
+timer_input cores name ms timer e = input_there ms timer.irq (made_timer _ _ _ _ timer e)
+
+made_uart : (name : Option (List ℕ)) (core base : Option ℕ) (output : Option (List ℕ)) (irq : Option ℕ) (input : Option (List ℕ)) (every : ℕ) (uart : UartRow) → uart_made name core base output irq input every ≡ Some uart → (irq ≡ uart.irq) × (every ≡ uart.every)
+made_uart (Some n) (Some c) (Some b) (Some o) irq input every uart e = (grind arith, grind arith)
+made_uart None c b o irq input every uart e = grind arith
+made_uart (Some n) None b o irq input every uart e = grind arith
+made_uart (Some n) (Some c) None o irq input every uart e = grind arith
+made_uart (Some n) (Some c) (Some b) None irq input every uart e = grind arith
+
+pub uart_input : (cores : List CoreRow) (name : List ℕ) (ms : Members) (uart : UartRow) → uart_row cores name ms ≡ Some uart → IsInput uart.irq
+unfolding uart_row
+uart_input cores name ms uart e = input_there ms uart.irq (made_uart _ _ _ _ _ _ _ uart e).0
+
+pub uart_turn : (cores : List CoreRow) (name : List ℕ) (ms : Members) (uart : UartRow) → uart_row cores name ms ≡ Some uart → IsClock uart.every
+unfolding uart_row
+uart_turn cores name ms uart e =
+    let made = made_uart _ _ _ _ _ _ _ uart e in
+    clock_range uart.every (rw made.1 at (number_or quantity.Clock key.Every ms 64 turn_default))

@@ -12,7 +12,7 @@ use Rattle.board_file.proofs.WholeRows.{same_count}
 use Rattle.board_file.specs.Faults.{fault_unless}
 use Rattle.board_file.specs.Keys.{table_key, top_keys}
 use Rattle.board_file.specs.Read.{key_code, table_in, value_code}
-use Rattle.board_file.specs.Rows.{core_row, event_row, link_row, uart_row}
+use Rattle.board_file.specs.Rows.{core_row, event_row, link_row, timer_row, uart_row}
 use Rattle.board_file.specs.Rules.{are_few, count_members, is_empty, is_empty_table, is_network, keys_faults, stray_faults, top_faults}
 use Rattle.board_file.specs.Tree.{are_ascending, at_key, members_in, rows_in, table_place}
 use Rattle.board_file.specs.declared.board.CoreRow.{CoreRow}
@@ -28,7 +28,7 @@ use Rattle.board_sound.proofs.Files.{IsFromTree, apart_kinds, fresh_link, fresh_
 use Rattle.board_sound.proofs.Origins.{IsFrom, origin}
 use Rattle.board_sound.proofs.Lone.{lone_get, lone_put}
 use Rattle.board_sound.proofs.Names.{ascend}
-use Rattle.board_sound.proofs.Numbers.{core_clock, core_memory, core_name, link_depth, link_name}
+use Rattle.board_sound.proofs.Numbers.{core_clock, core_memory, core_name, link_depth, link_name, timer_input, uart_input, uart_turn}
 use Rattle.board_sound.proofs.Parts.{first_key, whole}
 use Rattle.board_sound.specs.Sound.{IsBefore, IsMemory, ReadIsSound}
 
@@ -64,6 +64,10 @@ few_ends : (n : ℕ) → are_few rows.Link n ≡ true → n ≤ 64
 unfolding are_few
 few_ends n e = grind arith
 
+few_serials : (n : ℕ) → are_few rows.Uart n ≡ true → n ≤ 64
+unfolding are_few
+few_serials n e = grind arith
+
 -- 16 memories of at most 1 MiB
 sum_within : (f : CoreRow → ℕ) (m : ℕ) (xs : List CoreRow) → ((k : ℕ) (x : CoreRow) → slice_get xs k ≡ Some x → f x ≤ m) → sum_by f xs ≤ length xs * m
 sum_within f m [] h = omega arith
@@ -94,9 +98,11 @@ read_is_sound file b h =
     let parts = whole tree h.is_right in
     let cores = same_count (core_row []) (rows_in tree rows.Core) b.cores h.is_board.cores in
     let links = same_count (link_row b.cores) (rows_in tree rows.Link) b.links h.is_board.links in
+    let uarts = same_count (uart_row b.cores) (rows_in tree rows.Uart) b.uarts h.is_board.uarts in
     let core_from = origin (core_row []) (rows_in tree rows.Core) b.cores h.is_board.cores in
     let link_from = origin (link_row b.cores) (rows_in tree rows.Link) b.links h.is_board.links in
     let event_from = origin (event_row b.cores) (rows_in tree rows.Event) b.events h.is_board.events in
+    let timer_from = origin (timer_row b.cores) (rows_in tree rows.Timer) b.timers h.is_board.timers in
     let uart_from = origin (uart_row b.cores) (rows_in tree rows.Uart) b.uarts h.is_board.uarts in
     let from : IsFromTree tree b = record { cores = core_from; links = link_from; uarts = uart_from } in
     let lone_links : AreLoneLinks b.links = lone_link (is_network tree) tree b parts.files from (h.ascends rows.Link) parts.links.rows in
@@ -115,6 +121,10 @@ read_is_sound file b h =
           let right = o.right (is_network tree) tree rows.Link parts.links.rows in
           not_two_files (is_network tree) b.cores o.name o.members link f g o.made right.code from to;
       events = λ k event e. let o = event_from k event e in event_there b.cores o.name o.members event o.made;
+      few_uarts = rw (sym uarts) at (few_serials _ parts.uarts.few);
+      timer_inputs = λ k timer e. let o = timer_from k timer e in timer_input b.cores o.name o.members timer o.made;
+      uart_inputs = λ k uart e. let o = uart_from k uart e in uart_input b.cores o.name o.members uart o.made;
+      uart_turns = λ k uart e. let o = uart_from k uart e in uart_turn b.cores o.name o.members uart o.made;
       lone_puts = λ j k one other core port e f from also.
           let a = link_from j one e in
           let o = link_from k other f in

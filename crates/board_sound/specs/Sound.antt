@@ -1,5 +1,5 @@
 -- What a board that was read always keeps.
-use Rattle.std.specs.Prelude.{◌≡◌, ◌≢◌, ℕ, ◌<◌, ◌≤◌, ◌%◌, List, [], ◌∷◌, ◌++◌, flat_map, length, slice_get, Some, true}
+use Rattle.std.specs.Prelude.{◌≡◌, ◌≢◌, ℕ, ◌<◌, ◌≤◌, ◌%◌, List, [], ◌∷◌, ◌++◌, flat_map, length, slice_get, IfSome, Option, Some, true}
 use Rattle.std.specs.Cmp.Lexicographic.{slice_cmp}
 use Rattle.std.specs.List.{sum_by}
 use Rattle.std.specs.Ordering.{is_lt, nat_cmp}
@@ -10,9 +10,10 @@ use Rattle.board_file.specs.declared.board.End.{End}
 use Rattle.board_file.specs.declared.board.End.TheVariants.{Port, File}
 use Rattle.board_file.specs.declared.board.EventRow.{EventRow}
 use Rattle.board_file.specs.declared.board.LinkRow.{LinkRow}
+use Rattle.board_file.specs.declared.board.TimerRow.{TimerRow}
 use Rattle.board_file.specs.declared.board.UartRow.{UartRow}
 
--- a core ticks at least in each 1,000,000th cycle
+-- a core ticks, and a UART moves, at least in each 1,000,000th cycle
 abbrev pub IsClock : ℕ → Type 0
 IsClock n = (1 ≤ n) × (n ≤ 1000000)
 
@@ -23,6 +24,10 @@ IsMemory size = (4096 ≤ size) × (size ≤ 1048576) × (size % 4096 ≡ 0)
 -- a link holds 1 to 4,096 items
 abbrev pub IsDepth : ℕ → Type 0
 IsDepth n = (1 ≤ n) × (n ≤ 4096)
+
+-- the input of an interrupt controller, where one is named, is one of 32
+abbrev pub IsInput : Option ℕ → Type 0
+IsInput irq = IfSome irq (λ n. n < 32)
 
 -- an end that is a port is one of the 16 ports of one of so many cores
 abbrev pub IsPortOf : ℕ → End → Type 0
@@ -76,6 +81,11 @@ pub record IsSound (b : BoardFile) : Type 0 where
   pub one_file : (k : ℕ) (link : LinkRow) (f g : List ℕ) → slice_get b.links k ≡ Some link → link.from ≡ File f → link.to ≡ File g → ⊥
   -- each event is of a core of the board, and in time
   pub events : (k : ℕ) (event : EventRow) → slice_get b.events k ≡ Some event → IsOnBoard (length b.cores) event
+  -- at most 64 UARTs, and each device is at an input of a controller, if at any
+  pub few_uarts : length b.uarts ≤ 64
+  pub timer_inputs : (k : ℕ) (timer : TimerRow) → slice_get b.timers k ≡ Some timer → IsInput timer.irq
+  pub uart_inputs : (k : ℕ) (uart : UartRow) → slice_get b.uarts k ≡ Some uart → IsInput uart.irq
+  pub uart_turns : (k : ℕ) (uart : UartRow) → slice_get b.uarts k ≡ Some uart → IsClock uart.every
   -- two links that begin, or end, at one port of a core are one link
   pub lone_puts : (j k : ℕ) (one other : LinkRow) (core port : ℕ) → slice_get b.links j ≡ Some one → slice_get b.links k ≡ Some other → one.from ≡ Port core port → other.from ≡ Port core port → j ≡ k
   pub lone_gets : (j k : ℕ) (one other : LinkRow) (core port : ℕ) → slice_get b.links j ≡ Some one → slice_get b.links k ≡ Some other → one.to ≡ Port core port → other.to ≡ Port core port → j ≡ k

@@ -8,8 +8,8 @@ use Rattle.board_file.specs.declared.board.Turn.TheVariants.{Ascending, Descendi
 use Rattle.board_machine.specs.declared.events.Event.{Event}
 use Rattle.board_machine.specs.declared.events.Event.TheVariants.{Devices, Host, Tick, Next}
 use Rattle.board_machine.specs.Cycles.{core_at, rotated}
-use Rattle.board_machine.specs.Fabric.{Fabric, act_leaves, breaks_come, host_moves, next_cycle, shown, waited}
-use Rattle.board_machine.specs.World.{CoreAt, IsThere, TickMay, World}
+use Rattle.board_machine.specs.Fabric.{Fabric, act_leaves, host_moves, next_cycle, shown, waited}
+use Rattle.board_machine.specs.World.{CoreAt, IsThere, TickMay, World, devices_done}
 use Rattle.board_machine.proofs.Lists.{slice_get_in}
 use Rattle.board_machine.proofs.Turns.{turns_apart}
 use Rattle.machine_laws.specs.Going.{CanStep, SomeStepIsLawful, TurnsAreApart}
@@ -45,7 +45,7 @@ can_step : (w : World) (event : Event) → IsThere (length w.cores) event → Ca
 can_step w (Tick core) l =
     let there = slice_get_in w.cores core l in
     tick_steps w core there.0 there.1 (can_tick core (due there.0.view (shown w.fabric core)) there.0 w.fabric)
-can_step w Devices l = record { next = record w { fabric = breaks_come w.fabric }; step = refl }
+can_step w Devices l = record { next = record w { fabric = devices_done w.cores w.fabric }; step = refl }
 can_step w Host l = record { next = record w { fabric = host_moves w.fabric (length w.fabric.rows) }; step = refl }
 can_step w Next l = record { next = record w { fabric = next_cycle w.fabric }; step = refl }
 

@@ -18,17 +18,19 @@ use Rattle.isa_step.specs.Shown.{Shown}
 use Rattle.isa_step.specs.Wants.{operands_of}
 use Rattle.board_file.specs.declared.board.BoardFile.{BoardFile}
 use Rattle.board_file.specs.declared.board.LinkRow.{LinkRow}
+use Rattle.board_file.specs.declared.board.UartRow.{UartRow}
 use Rattle.run_journal.specs.declared.entry.Entry.{Entry}
 use Rattle.run_journal.specs.declared.entry.What.{What}
 use Rattle.run_journal.specs.declared.entry.What.TheVariants.{Wait}
 use Rattle.board_machine.specs.declared.events.Event.{Event}
 use Rattle.board_machine.specs.declared.events.Event.TheVariants.{Devices, Host, Tick, Next}
 use Rattle.board_machine.specs.Fabric.{Fabric, act_leaves, entered, entered_some, entries_of_action, entry_of, entry_of_act, is_kept, is_wait, kept_wait, shown, waited}
-use Rattle.board_machine.specs.World.{CoreAt, IsAct, IsFilling, IsIdle, Reached, Start, Step, Steps, TickMay, World, feeds_of}
+use Rattle.board_machine.specs.Bus.{DeviceRows, Devices as DeviceSet}
+use Rattle.board_machine.specs.World.{CoreAt, Inputs, IsAct, IsFilling, IsIdle, Reached, Start, Step, Steps, TickMay, World, feeds_of, serials_of}
 use Rattle.board_machine.proofs.Keeping.{wired}
 use Rattle.board_machine.proofs.Lists.{all_append}
 use Rattle.board_machine.proofs.Staying.{hoped}
-use Rattle.board_machine.proofs.Steps.{step_kept}
+use Rattle.board_machine.proofs.Lasting.{step_kept}
 use Rattle.board_machine.proofs.Tells.{which}
 use Rattle.board_machine.proofs.Waits.{none_kept}
 use Rattle.machine_laws.specs.Holding.{EachStateHolds, Holds, IsAtWait, IsWaitWithin, WaitsHold, can_wait, want_of}
@@ -212,6 +214,9 @@ record Sized (w : World) : Type 0 where
   pending : length w.fabric.pending ≡ length w.cores
   links : length w.fabric.links ≡ length w.fabric.rows
   feeds : length w.fabric.feeds ≡ length w.fabric.rows
+  timers : length w.fabric.devices.timers ≡ length w.fabric.bus.timers
+  intcs : length w.fabric.devices.intcs ≡ length w.fabric.bus.intcs
+  uarts : length w.fabric.devices.uarts ≡ length w.fabric.bus.uarts
 
 step_sized : (w v : World) (event : Event) → Step w event v → Sized w → Sized v
 step_sized w v event h z =
@@ -219,10 +224,13 @@ step_sized w v event h z =
     let l = step_length w v event h in
     let rows : length v.fabric.rows ≡ length w.fabric.rows = ap length k.rows in
     record {
-      lines = ap length k.lines ∙ z.lines ∙ sym k.cores;
+      lines = l.lines ∙ z.lines ∙ sym k.cores;
       pending = l.pending ∙ z.pending ∙ sym k.cores;
       links = l.links ∙ z.links ∙ sym rows;
       feeds = l.feeds ∙ z.feeds ∙ sym rows;
+      timers = l.devices.timers ∙ z.timers ∙ sym (ap (λ (bus : DeviceRows). length bus.timers) k.bus);
+      intcs = l.devices.intcs ∙ z.intcs ∙ sym (ap (λ (bus : DeviceRows). length bus.intcs) k.bus);
+      uarts = l.devices.uarts ∙ z.uarts ∙ sym (ap (λ (bus : DeviceRows). length bus.uarts) k.bus);
     }
 
 steps_sized : (w v : World) (es : List Event) → Steps w es v → Sized w → Sized v
@@ -235,14 +243,21 @@ feeds_count : (rows : List LinkRow) (inputs : List (List ℕ)) → length (feeds
 feeds_count [] inputs = refl
 feeds_count (r ∷ rows) inputs = ap suc (feeds_count rows _)
 
-start_sized : (b : BoardFile) (views : List View) (inputs : List (List ℕ)) (w : World) → Start b views inputs w → Sized w
+serials_count : (rows : List UartRow) (blobs : List (List ℕ)) → length (serials_of rows blobs) ≡ length rows
+serials_count [] blobs = refl
+serials_count (r ∷ rows) blobs = ap suc (serials_count rows _)
+
+start_sized : (b : BoardFile) (views : List View) (inputs : Inputs) (w : World) → Start b views inputs w → Sized w
 start_sized b views inputs w s =
     let rows : length b.links ≡ length w.fabric.rows = sym (ap length s.has_rows) in
     record {
       lines = ap length s.lines ∙ length-map w.cores _;
       pending = ap length s.pending ∙ length-map w.cores _;
       links = ap length s.links ∙ length-map b.links _ ∙ rows;
-      feeds = ap length s.feeds ∙ feeds_count b.links inputs ∙ rows;
+      feeds = ap length s.feeds ∙ feeds_count b.links inputs.links ∙ rows;
+      timers = ap (λ (d : DeviceSet). length d.timers) s.devices ∙ length-map b.timers _ ∙ sym (ap (λ (bus : DeviceRows). length bus.timers) s.has_bus);
+      intcs = ap (λ (d : DeviceSet). length d.intcs) s.devices ∙ length-map b.intcs _ ∙ sym (ap (λ (bus : DeviceRows). length bus.intcs) s.has_bus);
+      uarts = ap (λ (d : DeviceSet). length d.uarts) s.devices ∙ serials_count b.uarts inputs.uarts ∙ sym (ap (λ (bus : DeviceRows). length bus.uarts) s.has_bus);
     }
 
 nothing_waits : (core : ℕ) (s : CoreAt) (journal : List Entry) → journal ≡ [] → WaitsHold core s journal
@@ -252,11 +267,11 @@ nothing_waits core s journal e = record {
   waits = λ q. let z : None ≡ Some s.acts = sym (ap (kept_wait core) e ∙ none_kept core) ∙ q in cc;
 }
 
-start_waits : (b : BoardFile) (views : List View) (inputs : List (List ℕ)) (w : World) → Start b views inputs w → AllWait w
+start_waits : (b : BoardFile) (views : List View) (inputs : Inputs) (w : World) → Start b views inputs w → AllWait w
 unfolding AllWait
 start_waits b views inputs w s core c q = nothing_waits core c w.fabric.journal s.journal
 
-reached_holds : (b : BoardFile) (views : List View) (inputs : List (List ℕ)) (w : World) → Reached b views inputs w → Holds w
+reached_holds : (b : BoardFile) (views : List View) (inputs : Inputs) (w : World) → Reached b views inputs w → Holds w
 unfolding AllWait
 reached_holds b views inputs w r =
     let z = steps_sized r.first w r.events r.ran (start_sized b views inputs r.first r.began) in
@@ -267,6 +282,9 @@ reached_holds b views inputs w r =
       pending = z.pending;
       links = z.links;
       feeds = z.feeds;
+      timers = z.timers;
+      intcs = z.intcs;
+      uarts = z.uarts;
       waits = steps_wait r.first w r.events r.ran (start_waits b views inputs r.first r.began);
     }
 

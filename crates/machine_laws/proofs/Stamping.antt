@@ -17,8 +17,12 @@ use Rattle.board_machine.specs.declared.events.Event.{Event}
 use Rattle.board_machine.specs.declared.events.Event.TheVariants.{Devices, Host, Tick, Next}
 use Rattle.board_machine.specs.declared.events.HostPart.{HostPart}
 use Rattle.board_machine.specs.declared.events.HostPart.TheVariants.{Sends, Takes, Nothing}
-use Rattle.board_machine.specs.Fabric.{Fabric, act_leaves, entered, entered_some, entries_of_action, entry_of, entry_of_act, first_in, got_of, host_moves, is_kept, move_by, move_of, moved, next_sent, no_core, part_at, sent_of, shown, waited}
-use Rattle.board_machine.specs.World.{CoreAt, Step, TickMay, World}
+use Rattle.uart_lite.specs.Machine.{leaving}
+use Rattle.board_machine.specs.Bus.{Serial}
+use Rattle.board_machine.specs.DeviceMoves.{devices_moved, in_order, intcs_moved, is_turn, left_at, left_of, line_change, line_driven, timers_moved, uart_cycled, uart_moved, with_devices}
+use Rattle.board_machine.specs.Fabric.{Fabric, act_leaves, breaks_come, entered, entered_some, entries_of_action, entry_of, entry_of_act, first_in, got_of, host_moves, is_kept, move_by, move_of, moved, next_sent, no_core, or_low, part_at, sent_of, shown, waited}
+use Rattle.board_machine.specs.World.{CoreAt, Step, TickMay, World, acts_of, devices_done, line_latched}
+use Rattle.board_machine.proofs.DeviceSteps.{order_keeps}
 use Rattle.board_machine.proofs.Lists.{all_append}
 use Rattle.board_machine.proofs.Steps.{moves_enter}
 use Rattle.machine_laws.specs.Stamps.{EntriesAreStamped, IsStamped, maker}
@@ -124,9 +128,75 @@ host_stamped f (suc n) =
     and_more (IsStamped f.cycle Host) f g (moved n g) (host_stamped f n)
     (subst (λ c. AddedAll (IsStamped c Host) g (moved n g)) (moves_enter f n).cycle (some_stamped Host no_core 0 (move_of g n) g (part_made g n (part_at (slice_get g.rows n)))))
 
+-- the step of the devices
+
+-- in the same cycle, and what was entered bears its stamp and that of the devices
+record DevicesStamp (f g : Fabric) : Type 0 where
+  cycle : g.cycle ≡ f.cycle
+  added : AddedAll (IsStamped f.cycle Devices) f g
+
+nothing_stamped : (f g : Fabric) → g.cycle ≡ f.cycle → g.journal ≡ f.journal → DevicesStamp f g
+nothing_stamped f g c j = record { cycle = c; added = no_more (IsStamped f.cycle Devices) f g j }
+
+stamps_then : (f g h : Fabric) → DevicesStamp f g → DevicesStamp g h → DevicesStamp f h
+stamps_then f g h a b = record {
+  cycle = b.cycle ∙ a.cycle;
+  added = and_more (IsStamped f.cycle Devices) f g h a.added (subst (λ c. AddedAll (IsStamped c Devices) g h) a.cycle b.added);
+}
+
+order_stamps : (move : ℕ → Fabric → Fabric) → ((k : ℕ) (f : Fabric) → DevicesStamp f (move k f)) → (n : ℕ) (f : Fabric) → DevicesStamp f (in_order move n f)
+order_stamps move each n f = order_keeps DevicesStamp move (λ f. nothing_stamped f f refl refl) stamps_then each n f
+
+entry_stamps : (core act : ℕ) (o : Option What) (f : Fabric) → IsMadeBy Devices core o → DevicesStamp f (entered_some core act o f)
+entry_stamps core act o f h = record { cycle = some_cycle core act o f; added = some_stamped Devices core act o f h }
+
+byte_made : (k : ℕ) (o : Option ℕ) → IsMadeBy Devices no_core (left_of k o)
+unfolding IsMadeBy
+byte_made k None = tt
+byte_made k (Some byte) = refl
+
+left_made : (k : ℕ) (o : Option Serial) → IsMadeBy Devices no_core (left_at k o)
+unfolding IsMadeBy
+left_made k None = tt
+left_made k (Some u) = byte_made k (leaving u.port)
+
+change_made : (core : ℕ) (new old : Bool) → IsMadeBy Devices core (line_change new old)
+unfolding IsMadeBy
+change_made core true true = tt
+change_made core true false = refl
+change_made core false true = refl
+change_made core false false = tt
+
+uart_stamps : (k : ℕ) (f : Fabric) (turn : Bool) → DevicesStamp f (cond turn (entered_some no_core 0 (left_at k (slice_get f.devices.uarts k)) (with_devices (uart_cycled k f.devices) f)) f)
+uart_stamps k f false = nothing_stamped f f refl refl
+uart_stamps k f true =
+    let g = with_devices (uart_cycled k f.devices) f in
+    stamps_then f g _ (nothing_stamped f g refl refl) (entry_stamps no_core 0 (left_at k (slice_get f.devices.uarts k)) g (left_made k (slice_get f.devices.uarts k)))
+
+moved_stamps : (f : Fabric) → DevicesStamp f (devices_moved f)
+moved_stamps f =
+    let t = timers_moved f in
+    let u = in_order uart_moved (length f.bus.uarts) t in
+    stamps_then f u (devices_moved f)
+    (stamps_then f t u (nothing_stamped f t refl refl) (order_stamps uart_moved (λ k f. uart_stamps k f (is_turn f.cycle (slice_get f.bus.uarts k))) (length f.bus.uarts) t))
+    (nothing_stamped u (intcs_moved u) refl refl)
+
+latch_stamps : (cores : List CoreAt) (core : ℕ) (f : Fabric) → DevicesStamp f (line_latched cores core f)
+latch_stamps cores core f =
+    let new = line_driven f core in
+    let old = or_low (slice_get f.lines core) in
+    entry_stamps core (acts_of (slice_get cores core)) (line_change new old) f (change_made core new old)
+
+done_stamps : (cores : List CoreAt) (f : Fabric) → DevicesStamp f (devices_done cores f)
+unfolding devices_done
+done_stamps cores f =
+    let b = breaks_come f in
+    let g = devices_moved b in
+    stamps_then f g (devices_done cores f) (stamps_then f b g (nothing_stamped f b refl refl) (moved_stamps b)) (order_stamps (line_latched cores) (latch_stamps cores) (length cores) g)
+
 pub step_stamped : (w v : World) (e : Event) → Step w e v → AddedAll (IsStamped w.fabric.cycle e) w.fabric v.fabric
 step_stamped w v (Tick core) h = tick_stamped core (due h.was.view (shown w.fabric core)) h.was h.is w.fabric v.fabric h.may
-step_stamped w v Devices h = no_more _ w.fabric v.fabric (ap (λ (x : World). x.fabric.journal) h)
+step_stamped w v Devices h = left_as _ w.fabric (devices_done w.cores w.fabric) v.fabric (ap (λ (x : World). x.fabric) h) (done_stamps w.cores w.fabric).added
 step_stamped w v Host h = left_as _ w.fabric (host_moves w.fabric (length w.fabric.rows)) v.fabric (ap (λ (x : World). x.fabric) h) (host_stamped w.fabric (length w.fabric.rows))
 step_stamped w v Next h = no_more _ w.fabric v.fabric (ap (λ (x : World). x.fabric.journal) h)
 

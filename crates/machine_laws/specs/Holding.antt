@@ -9,7 +9,7 @@ use Rattle.isa_step.specs.Wants.{operands_of, wants}
 use Rattle.board_file.specs.declared.board.BoardFile.{BoardFile}
 use Rattle.run_journal.specs.declared.entry.Entry.{Entry}
 use Rattle.board_machine.specs.Fabric.{has_controller, is_wait, kept_wait, or_low, shown}
-use Rattle.board_machine.specs.World.{CoreAt, Reached, World}
+use Rattle.board_machine.specs.World.{CoreAt, Inputs, Reached, World}
 use Rattle.machine_laws.specs.Silence.{IsAwake}
 
 abbrev pub want_of : View → Want
@@ -45,7 +45,11 @@ pub record Holds (w : World) : Type 0 where
   -- an element for each link
   pub links : length w.fabric.links ≡ length w.fabric.rows
   pub feeds : length w.fabric.feeds ≡ length w.fabric.rows
+  -- a device for each row
+  pub timers : length w.fabric.devices.timers ≡ length w.fabric.bus.timers
+  pub intcs : length w.fabric.devices.intcs ≡ length w.fabric.bus.intcs
+  pub uarts : length w.fabric.devices.uarts ≡ length w.fabric.bus.uarts
   pub waits : (core : ℕ) (s : CoreAt) → slice_get w.cores core ≡ Some s → WaitsHold core s w.fabric.journal
 
 pub record EachStateHolds : Type 0 where
-  pub holds : (b : BoardFile) (views : List View) (inputs : List (List ℕ)) (w : World) → Reached b views inputs w → Holds w
+  pub holds : (b : BoardFile) (views : List View) (inputs : Inputs) (w : World) → Reached b views inputs w → Holds w

@@ -11,8 +11,8 @@ ghost use Rattle.machine_laws.specs.Silence.{LoudActsKeepMemory, SilentActsStayA
 ghost use Rattle.machine_laws.specs.Stamps.{EntriesAreStamped};
 
 /// In every reached state lines are high and breaks are pending only where they are hoped for, the lists have an element
-/// for each core or link, no Wait entry is of an act beyond its core's acts, and a wait is kept only where the core stands
-/// at a link access that waits.
+/// for each core, link or device, no Wait entry is of an act beyond its core's acts, and a wait is kept only where the core
+/// stands at a link access that waits.
 #[tactic(auto, using(crate::proofs::Holding::each_state_holds))]
 pub fn each_state_holds()
     ensures { EachStateHolds }

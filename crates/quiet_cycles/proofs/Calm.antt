@@ -21,7 +21,7 @@ not_true : (b : Bool) → not b ≡ true → b ≡ false
 not_true true e = cc
 not_true false e = refl
 
-all_low : (lines : List Bool) → list_all (λ high. not high) lines ≡ true → (core : ℕ) → or_low (slice_get lines core) ≡ false
+pub all_low : (lines : List Bool) → list_all (λ high. not high) lines ≡ true → (core : ℕ) → or_low (slice_get lines core) ≡ false
 all_low [] e core = refl
 all_low (x ∷ xs) e zero = not_true x (and_left _ _ e)
 all_low (x ∷ xs) e (suc core) = all_low xs (and_right (not x) _ e) core

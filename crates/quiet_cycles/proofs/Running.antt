@@ -17,7 +17,7 @@ use Rattle.quiet_cycles.proofs.Doing.{quiet_cycles}
 
 -- a quiet cycle begins with nothing
 pub begins : (w : World) (until : ℕ) → IsQuiet until w.fabric → w.fabric.cycle < until → Steps w (Devices ∷ Host ∷ []) w
-begins w until q l = (w, quiet_cycles.devices w until q.breaks l, (w, quiet_cycles.host w (quiet_of w.fabric q.links), refl))
+begins w until q l = (w, quiet_cycles.devices w until q.breaks l q.calm q.devices, (w, quiet_cycles.host w (quiet_of w.fabric q.links), refl))
 
 -- on a board in step, turn k is the tick of core k
 pub core_in_step : (s : Schedule) (cycle k : ℕ) → IsInStep s → core_of_turn s cycle k ≡ k
@@ -97,7 +97,7 @@ ran_none limit old w r e = nothing_ran limit old w r.count (omega (arith, r.cycl
 
 -- what stays quiet in the next cycle
 pub quiet_next : (until : ℕ) (f g : Fabric) → g ≡ record f { cycle = f.cycle + 1 } → IsQuiet until f → IsQuiet until g
-quiet_next until f g e q = subst (IsQuiet until) (sym e) (record { breaks = q.breaks; calm = q.calm; links = q.links })
+quiet_next until f g e q = subst (IsQuiet until) (sym e) (record { breaks = q.breaks; calm = q.calm; links = q.links; devices = q.devices })
 
 -- turns at once
 
@@ -319,6 +319,6 @@ quiet_more limit quiet number steady first w u v k r l n some t next =
       ran = runs_one limit first w v r.ran (no_end limit w (t.busy some) below r.spare) below s;
       cycle = omega (arith, d.cycle, r.cycle);
       calm = λ z. quiet_next quiet w.fabric v.fabric f (r.calm (omega (arith, z)));
-      spare = omega (arith, r.spare, d.cores, ap length d.rows, ap (λ (f : Fabric). f.spare) f);
+      spare = omega (arith, r.spare, d.cores, ap length d.rows, ap (λ (f : Fabric). length f.bus.uarts) f, ap (λ (f : Fabric). f.spare) f);
       in_step = λ e. subst IsInStep (sym d.schedule) (r.in_step e);
     }

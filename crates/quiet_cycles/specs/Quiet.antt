@@ -1,5 +1,5 @@
 -- Cycles in which devices and host have nothing to do.
-use Rattle.std.specs.Prelude.{◌≡◌, ℕ, ◌+◌, ◌<◌, ◌≤◌, ◌||◌, Option, Some, None, Bool, true, false, List, [], ◌∷◌, length, slice_get}
+use Rattle.std.specs.Prelude.{◌≡◌, ℕ, ◌+◌, ◌<◌, ◌≤◌, ◌||◌, Option, Some, None, Bool, true, false, List, [], ◌∷◌, length, position, slice_get}
 use Rattle.axi_link.specs.Channel.{Channel}
 use Rattle.isa_step.specs.declared.acts.Breaks.{Breaks}
 use Rattle.board_file.specs.declared.board.EventRow.{EventRow}
@@ -7,7 +7,14 @@ use Rattle.board_file.specs.declared.board.LinkRow.{LinkRow}
 use Rattle.board_file.specs.declared.board.Turn.TheVariants.{Ascending}
 use Rattle.board_machine.specs.declared.events.Event.TheVariants.{Devices, Host}
 use Rattle.board_machine.specs.Cycles.{CanCycle, CanRun, Runs, events_of, turn_of, turns}
-use Rattle.board_machine.specs.Fabric.{Fabric, Feed, or_low, or_none}
+use Rattle.axi_intc.specs.declared.intc.Intc.{Intc}
+use Rattle.axi_intc.specs.Machine as intc
+use Rattle.axi_timer.specs.declared.timer.Timer.{Timer}
+use Rattle.axi_timer.specs.Machine as timer
+use Rattle.board_file.specs.declared.board.IntcRow.{IntcRow}
+use Rattle.board_machine.specs.Bus.{DeviceRows, Devices as DeviceSet, Serial, is_done}
+use Rattle.board_machine.specs.DeviceMoves.{controller, inputs_of, output_of}
+use Rattle.board_machine.specs.Fabric.{Fabric, Feed, is_on, or_low, or_none}
 use Rattle.board_machine.specs.Resting.{is_quiet_to, rest_of}
 use Rattle.board_machine.specs.World.{CoreAt, Schedule, World, Step, Steps, need}
 
@@ -25,14 +32,23 @@ pub record IsCalm (lines : List Bool) (pending : List Breaks) : Type 0 where
   pub low : (core : ℕ) → or_low (slice_get lines core) ≡ false
   pub none : (core : ℕ) → has_break (or_none (slice_get pending core)) ≡ false
 
+-- a cycle leaves each timer and each controller as it is, each UART is done and holds no edge, and no controller asks for
+-- its line
+pub record AreAtRest (bus : DeviceRows) (d : DeviceSet) : Type 0 where
+  pub timers : (k : ℕ) (t : Timer) → slice_get d.timers k ≡ Some t → timer.cycled t ≡ t
+  pub uarts : (k : ℕ) (u : Serial) → slice_get d.uarts k ≡ Some u → (is_done u ≡ true) × (u.port.edge ≡ false)
+  pub intcs : (k : ℕ) (r : IntcRow) (c : Intc) → slice_get bus.intcs k ≡ Some r → slice_get d.intcs k ≡ Some c → intc.cycled (inputs_of bus d r.core) c ≡ c
+  pub low : (core : ℕ) → output_of (controller d.intcs (position (is_on core) bus.intcs)) ≡ false
+
 -- the links alone, which are all that the host's moves ask
 abbrev pub links_alone : List LinkRow → List Channel → List Feed → Fabric
 links_alone rows links feeds = record {
   rows = rows;
+  bus = record { timers = []; intcs = []; uarts = [] };
   cycle = 0;
   links = links;
   feeds = feeds;
-  devices = record { intcs = [] };
+  devices = record { timers = []; intcs = []; uarts = [] };
   lines = [];
   pending = [];
   left = [];
@@ -49,10 +65,11 @@ pub record IsQuiet (until : ℕ) (f : Fabric) : Type 0 where
   pub breaks : NoneBefore until f.left
   pub calm : IsCalm f.lines f.pending
   pub links : IsMoveless f.rows f.links f.feeds
+  pub devices : AreAtRest f.bus f.devices
 
--- before the next break the devices do nothing, and where the host can move no item it does nothing
+-- before the next break devices that are at rest do nothing, and where the host can move no item it does nothing
 pub record QuietCycles : Type 0 where
-  pub devices : (w : World) (next : ℕ) → NoneBefore next w.fabric.left → w.fabric.cycle < next → Step w Devices w
+  pub devices : (w : World) (next : ℕ) → NoneBefore next w.fabric.left → w.fabric.cycle < next → IsCalm w.fabric.lines w.fabric.pending → AreAtRest w.fabric.bus w.fabric.devices → Step w Devices w
   pub host : (w : World) → is_quiet_to w.fabric (length w.fabric.rows) ≡ true → Step w Host w
 
 -- clocks that are all 1

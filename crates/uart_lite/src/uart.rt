@@ -60,6 +60,13 @@ impl Uart {
         self.tx.len()
     }
 
+    /// Whether an edge of the output is held. It stays held, unlike by `line`.
+    pub fn holds_edge(&self) -> bool
+        ensures { result ≡ self.now.edge }
+    {
+        self.edge
+    }
+
     /// One cycle: the oldest byte of TX leaves and is the answer, None where there is none; then `next` arrives. It is
     /// lost where RX is full.
     pub fn cycle(&mut self, next: Option<u8>) -> Option<u8>

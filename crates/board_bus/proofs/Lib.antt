@@ -1,0 +1,4 @@
+pub mod Asking
+pub mod Building
+pub mod Refusing
+pub mod AtRest

@@ -1,0 +1,18 @@
+use Rattle.std.proofs.Common.{◌≡◌, ◌<◌, ℕ, Some, length, ap, sym, ◌∙◌, arith, subst, slice_get}
+use Rattle.std.specs.Prelude.{All, IfSome}
+use Rattle.std.proofs.lemmas.List.{length-map}
+use Rattle.board_file.specs.declared.board.TimerRow.{TimerRow}
+use Rattle.board_file.specs.declared.board.UartRow.{UartRow}
+use Rattle.board_bus.proofs.Building.{all_of, serials_length}
+use Rattle.board_bus.proofs.bus.Bus.new.Goals as goal
+
+pub invariant_of-result : goal.invariant_of-result
+invariant_of-result c = (
+  ap length c.in_ok-timers_of.ensures ∙ length-map c.args.timers.now _ ∙ sym (ap length c.in_ok-copied_timers.ensures),
+  ap length c.in_ok-intcs_of.ensures ∙ length-map c.args.intcs.now _ ∙ sym (ap length c.in_ok-copied_intcs.ensures),
+  ap length c.in_ok-serials_of.ensures ∙ serials_length c.args.uarts.now c.args.inputs.now ∙ sym (ap length c.in_ok-copied_uarts.ensures),
+  omega (arith, ap length c.in_ok-copied_uarts.ensures, c.requires.few),
+  rw c.in_ok-copied_timers.ensures (all_of (λ (r : TimerRow). IfSome r.irq (λ n. n < 32)) c.args.timers.now c.requires.timers),
+  rw c.in_ok-copied_uarts.ensures (all_of (λ (r : UartRow). IfSome r.irq (λ n. n < 32)) c.args.uarts.now (λ k row q. (c.requires.uarts k row q).0)),
+  rw c.in_ok-copied_uarts.ensures (all_of (λ (r : UartRow). 0 < r.every) c.args.uarts.now (λ k row q. (c.requires.uarts k row q).1)),
+)

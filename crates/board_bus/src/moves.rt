@@ -1,0 +1,164 @@
+//! The moves of the devices in a cycle.
+ghost use Rattle.std.specs.Prelude.{◌≡◌, ◌==◌, ◌%◌, ◌<◌, length, slice_get, position, IfSome, ◌≤◌};
+ghost use Rattle.std.specs.List.{list_all, list_any};
+ghost use Rattle.board_machine.specs.Bus.{is_done};
+ghost use Rattle.board_machine.specs.DeviceMoves.{controller, edge_used, in_order, input_bit, inputs_of, intc_cycled, intc_moved, intc_moved_by, is_of, is_turn, left_at, left_of, output_of, timer_input, timer_inputs, timer_moved, uart_asked, uart_cycled, uart_input, uart_inputs};
+ghost use Rattle.board_machine.specs.Fabric.{is_on};
+ghost use Rattle.uart_lite.specs.Machine.{leaving};
+
+use crate::bus::Bus;
+use bus_map::Device;
+
+/// The bit of an input of a controller, where it is high.
+pub(crate) fn input_bit(high: bool, irq: Option<u8>) -> u32
+    requires { IfSome irq (λ n. n < 32) }
+    ensures { result ≡ input_bit high irq }
+{
+    match irq {
+        Some(n) => { if high { 1 << n } else { 0 } }
+        None => 0,
+    }
+}
+
+/// Whether a UART that moves in each cycle that this number divides moves in this cycle.
+fn divides(every: u32, cycle: u64) -> bool
+    requires { 0 < every }
+    ensures { result ≡ (cycle % every == 0) }
+{
+    // Most UARTs move in each cycle, and a division is dear.
+    every == 1 || cycle % every as u64 == 0
+}
+
+impl Bus {
+    /// A cycle of each timer.
+    pub fn move_timers(&mut self)
+        ensures { self.new ≡ record (self.old) { devices = in_order timer_moved (length self.old.rows.timers) self.old.devices } }
+    {
+        for k in 0..self.timer_rows.len() {
+            self.move_timer(k);
+        }
+    }
+
+    /// A cycle of a timer.
+    fn move_timer(&mut self, k: usize)
+        requires { k < length self.old.rows.timers }
+        ensures { self.new ≡ record (self.old) { devices = timer_moved k self.old.devices } }
+    {
+        self.timers[k].cycle();
+    }
+
+    /// Whether it is a UART's turn in a cycle.
+    pub fn is_turn(&self, cycle: u64, k: usize) -> bool
+        ensures { result ≡ is_turn cycle (slice_get self.now.rows.uarts k) }
+    {
+        match self.uart_rows.get(k) {
+            Some(row) => divides(row.every, cycle),
+            None => false,
+        }
+    }
+
+    /// The number of UARTs.
+    pub fn uarts(&self) -> u16
+        ensures uarts { result ≡ length self.now.rows.uarts }
+    {
+        self.uart_rows.len() as u16
+    }
+
+    /// A cycle of a UART, and the byte that left it.
+    pub fn move_uart(&mut self, k: usize) -> Option<u8>
+        requires { k < length self.old.rows.uarts }
+        ensures byte { left_at k (slice_get self.old.devices.uarts k) ≡ left_of k result }
+        ensures leaves { self.new ≡ record (self.old) { devices = uart_cycled k self.old.devices } }
+    {
+        self.uarts[k].cycle()
+    }
+
+    /// Whether a core has an interrupt controller.
+    pub fn has_controller(&self, core: u16) -> bool
+        ensures { result ≡ list_any (is_on core) self.now.rows.intcs }
+    {
+        self.intc_rows.iter().any(|row| row.core == core)
+    }
+
+    /// Whether a core's controller asks for the core's line; no where the core has none.
+    pub fn line(&mut self, core: u16) -> bool
+        ensures high { result ≡ output_of (controller self.old.devices.intcs (position (is_on core) self.old.rows.intcs)) }
+        ensures leaves { self.new ≡ self.old }
+    {
+        match self.controller_place(core) {
+            Some(k) => self.line_at(k),
+            None => false,
+        }
+    }
+
+    /// The place of a core's controller.
+    fn controller_place(&self, core: u16) -> Option<usize>
+        ensures { result ≡ position (is_on core) self.now.rows.intcs }
+    {
+        self.intc_rows.iter().position(|row| row.core == core)
+    }
+
+    fn line_at(&mut self, k: usize) -> bool
+        ensures high { result ≡ output_of (slice_get self.old.devices.intcs k) }
+        ensures leaves { self.new ≡ self.old }
+    {
+        match self.intcs.get_mut(k) {
+            Some(intc) => intc.line(),
+            None => false,
+        }
+    }
+
+    /// Asks a UART of a core for its edge, which is used up.
+    fn ask_uart(&mut self, core: u16, k: usize) -> u32
+        requires { k < length self.old.rows.uarts }
+        ensures bit { result ≡ uart_input core (slice_get self.old.rows.uarts k) (slice_get self.old.devices.uarts k) }
+        ensures leaves { self.new ≡ record (self.old) { devices = uart_asked self.old.rows core k self.old.devices } }
+    {
+        let row = &self.uart_rows[k];
+        if row.core == core {
+            input_bit(self.uarts[k].line(), row.irq)
+        } else {
+            0
+        }
+    }
+
+    /// Asks each UART of a core for its edge: the input bits of the core's controller that they hold high.
+    #[tactic(auto, using(crate::proofs::Asking::not_yet_asked))]
+    fn ask_uarts(&mut self, core: u16) -> u32
+        ensures bits { result ≡ uart_inputs self.old.rows self.old.devices core (length self.old.rows.uarts) }
+        ensures leaves { self.new ≡ record (self.old) { devices = in_order (uart_asked self.old.rows core) (length self.old.rows.uarts) self.old.devices } }
+    {
+        let mut inputs = 0;
+        for k in 0..self.uart_rows.len() {
+            inputs |= self.ask_uart(core, k);
+        }
+        inputs
+    }
+
+    /// A cycle of a controller.
+    #[tactic(auto, unfolding(board_machine::specs::DeviceMoves::inputs_of))]
+    fn move_intc(&mut self, k: usize)
+        requires { k < length self.old.rows.intcs }
+        ensures { self.new ≡ record (self.old) { devices = intc_moved self.old.rows k self.old.devices } }
+    {
+        let core = self.intc_rows[k].core;
+        let inputs = self.bits_of_timers(core) | self.ask_uarts(core);
+        self.intcs[k].cycle(inputs);
+    }
+
+    /// A cycle of each controller.
+    pub fn move_intcs(&mut self)
+        ensures { self.new ≡ record (self.old) { devices = in_order (intc_moved self.old.rows) (length self.old.rows.intcs) self.old.devices } }
+    {
+        for k in 0..self.intc_rows.len() {
+            self.move_intc(k);
+        }
+    }
+
+    /// Whether each UART was given its input and sent its bytes.
+    pub fn is_done(&self) -> bool
+        ensures { result ≡ list_all is_done self.now.devices.uarts }
+    {
+        self.uarts.iter().all(|line| line.is_done())
+    }
+}
