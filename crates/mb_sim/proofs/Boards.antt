@@ -13,9 +13,9 @@ use Rattle.board_file.specs.declared.board.BoardFile.{BoardFile}
 use Rattle.board_machine.specs.declared.events.RunEnd.{RunEnd}
 use Rattle.board_machine.specs.declared.events.Event.{Event}
 use Rattle.board_machine.specs.Cycles.{RunsTo}
-use Rattle.board_machine.specs.World.{CoreAt, Reached, Start, Steps, World}
+use Rattle.board_machine.specs.World.{CoreAt, Inputs, Reached, Start, Steps, World}
 use Rattle.board_machine.specs.Runs.{KeepsRuns}
-use Rattle.board_machine.proofs.Steps.{step_kept}
+use Rattle.board_machine.proofs.Lasting.{step_kept}
 use Rattle.host_io.specs.Outside.{CountsWriteFault}
 use Rattle.host_io.specs.declared.faults.StoreFault.TheVariants as store
 use Rattle.board_file.specs.declared.board.CoreRow.{CoreRow}
@@ -27,7 +27,7 @@ use Rattle.board_machine.specs.declared.events.RunEnd.TheVariants as end
 use Rattle.board_sound.proofs.Distinct.{no_output}
 use Rattle.board_sound.proofs.Soundness.{read_is_sound}
 use Rattle.board_load.specs.Jobs.{IsJobOf}
-use Rattle.board_load.specs.Unbuilt.{core_names, end_names, input_names, link_names, names_file, names_journal, uart_names}
+use Rattle.board_load.specs.Named.{core_names, end_names, input_names, link_names, names_file, names_journal, uart_names}
 use Rattle.board_sound.specs.Sound.{output_files}
 use Rattle.host_io.specs.declared.faults.ShelfFaults.{ShelfFaults}
 use Rattle.command_words.proofs.Filled.{same_text}
@@ -66,7 +66,7 @@ prints_out journal board last how shelf shelf' out out' status w (printed a) = a
 prints_out journal board last how shelf shelf' out out' status w (stopped fault a) = report_stops fault w a
 
 -- a run from a board's beginning tells each core's view
-pub run_of : (b : BoardFile) (views : List View) (inputs : List (List ℕ)) (entries limit : ℕ) (first last : World) (how : RunEnd) → Start b views inputs first → first.fabric.spare ≡ entries
+pub run_of : (b : BoardFile) (views : List View) (inputs : Inputs) (entries limit : ℕ) (first last : World) (how : RunEnd) → Start b views inputs first → first.fabric.spare ≡ entries
     → RunsTo limit first last how → KeepsRuns first last → IsRunOf b views inputs entries limit last how
 run_of b views inputs entries limit first last how began room ran keeps = record {
   first = first;
@@ -119,7 +119,7 @@ is_no_output board None h name e k = cc
 is_no_output board (Some file) h name e k = no_journal_output board name (ap (names_file board) (sym (same_Some _ _ e)) ∙ h) k
 
 -- so the outputs of a run have different names
-pub apart : (files : Option Files) (file : List ℕ) (journal : Option (List ℕ)) (board : BoardFile) (views : List View) (inputs : List (List ℕ)) (entries : List Entry)
+pub apart : (files : Option Files) (file : List ℕ) (journal : Option (List ℕ)) (board : BoardFile) (views : List View) (inputs : Inputs) (entries : List Entry)
     → IsJobOf files file journal board views inputs → AreApart (outputs_of board entries journal)
 apart files file journal board views inputs entries job =
     outputs_apart board entries journal (read_is_sound job.passes.is_board.0 board job.passes.is_board.2) (is_no_output board journal job.passes.spares)
@@ -137,7 +137,7 @@ says_puts words shelf shelf' out out' status board last how has a (file_stops (o
 says_puts words shelf shelf' out out' status board last how has a (file_stops output.NoMemory w e) = file_refused board last how output.NoMemory has (put_out_to words board last shelf shelf' (Err store.NoMemory) a w) tt e
 says_puts words shelf shelf' out out' status board last how has a (report_stops fault w p) = report_refused board last how fault has (put_out_to words board last shelf shelf' (Ok tt) a w) p
 
-pub says_played : (words : RunWords) (shelf mid shelf' : ShelfState) (out out' : SinkState) (status : Status) (board file : BoardFile) (views : List View) (inputs : List (List ℕ)) (first : World)
+pub says_played : (words : RunWords) (shelf mid shelf' : ShelfState) (out out' : SinkState) (status : Status) (board file : BoardFile) (views : List View) (inputs : Inputs) (first : World)
     → IsJobOf shelf.files words.file words.journal board views inputs → file ≡ board → Start board views inputs first → first.fabric.spare ≡ words.entries → mid ≡ shelf
     → Plays words file first mid shelf' out out' status → Says words shelf shelf' out out' status
 says_played words shelf mid shelf' out out' status board file views inputs first job same began room quiet p =

@@ -9,7 +9,7 @@ use Rattle.board_machine.specs.World.{World}
 use Rattle.command_words.specs.declared.command.Command.{Command}
 use Rattle.command_words.specs.declared.command.Command.TheVariants.{Raw, Run}
 use Rattle.mb_sim.specs.declared.status.Status.{Status}
-use Rattle.mb_sim.specs.declared.status.Status.TheVariants.{Ended, Stopped, CyclesSpent, JournalFull, Usage, ReadFault, BadBoard, BadImage, WriteFault, NoMemory, BadInput, TooLong, NotYet, Waiting}
+use Rattle.mb_sim.specs.declared.status.Status.TheVariants.{Ended, Stopped, CyclesSpent, JournalFull, Usage, ReadFault, BadBoard, BadImage, WriteFault, NoMemory, BadInput, TooLong, Waiting}
 use Rattle.mb_sim.specs.Board.{no_memory}
 use Rattle.mb_sim.specs.Top.{Answers, HasRun, HasRunTo, IsAnswer, IsFair, RawJob, Says}
 
@@ -49,7 +49,6 @@ runs job image shelf shelf' out out' (ReadFault file) fair within says = absurd 
 runs job image shelf shelf' out out' (BadBoard code place) fair within says = absurd says.0
 runs job image shelf shelf' out out' (BadImage core code at) fair within says = absurd says.0
 runs job image shelf shelf' out out' (BadInput file offset) fair within says = absurd says.0
-runs job image shelf shelf' out out' (NotYet place) fair within says = absurd says.0
 runs job image shelf shelf' out out' (TooLong file) fair within says = absurd (too_long_not job image file shelf shelf' out out' fair within says.0.0 says.0.1)
 
 pub completes : (o : Option Command) (file image : List ℕ) (cycles : ℕ) (shelf shelf' : ShelfState) (out out' : SinkState) (s : Status) → Answers o shelf shelf' out out' s
@@ -83,7 +82,6 @@ long_status job image shelf shelf' out out' (ReadFault file) fair past says = ab
 long_status job image shelf shelf' out out' (BadBoard code place) fair past says = absurd says.0
 long_status job image shelf shelf' out out' (BadImage core code at) fair past says = absurd says.0
 long_status job image shelf shelf' out out' (BadInput file offset) fair past says = absurd says.0
-long_status job image shelf shelf' out out' (NotYet place) fair past says = absurd says.0
 long_status job image shelf shelf' out out' (TooLong file) fair past says = inl (ap TooLong says.0.0)
 
 pub long_answer : (o : Option Command) (file image : List ℕ) (cycles : ℕ) (shelf shelf' : ShelfState) (out out' : SinkState) (s : Status) → Answers o shelf shelf' out out' s

@@ -36,7 +36,6 @@ mishap words shelf shelf' out out' refusal.NoMemory fair h = tt
 mishap words shelf shelf' out out' (refusal.CannotRead name) fair h = absurd (fair.loads h)
 mishap words shelf shelf' out out' (refusal.TooLong name) fair h = elim h [ ]
 mishap words shelf shelf' out out' refusal.Usage fair h = elim h [ ]
-mishap words shelf shelf' out out' (refusal.NotYet place) fair h = elim h [ ]
 mishap words shelf shelf' out out' (refusal.BadBoard code place) fair h = elim h [ ]
 mishap words shelf shelf' out out' (refusal.BadImage core code at) fair h = elim h [ ]
 mishap words shelf shelf' out out' (refusal.BadInput name offset) fair h = elim h [ ]

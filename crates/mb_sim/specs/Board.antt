@@ -13,7 +13,7 @@ use Rattle.board_machine.specs.declared.events.RunEnd.{RunEnd}
 use Rattle.board_machine.specs.Cycles.{RunsTo}
 use Rattle.board_machine.specs.Resting.{idle_at}
 use Rattle.board_machine.specs.Runs.{KeepsRuns}
-use Rattle.board_machine.specs.World.{CoreAt, World}
+use Rattle.board_machine.specs.World.{CoreAt, Inputs, World}
 use Rattle.run_output.specs.Outputs.{Tells, WroteAll, WroteOutputs, outputs_of}
 use Rattle.run_output.specs.Report.{report_text}
 use Rattle.run_output.specs.declared.outputs.OutputFault.{OutputFault}
@@ -21,13 +21,13 @@ use Rattle.run_output.specs.declared.outputs.OutputFault.TheVariants as output
 use Rattle.run_output.specs.declared.report.CoreEnd.{CoreEnd}
 use Rattle.mb_sim.specs.declared.run.RunWords.{RunWords}
 use Rattle.mb_sim.specs.declared.status.Status.{Status}
-use Rattle.mb_sim.specs.declared.status.Status.TheVariants.{Usage, ReadFault, BadBoard, BadImage, WriteFault, NoMemory, BadInput, TooLong, NotYet}
+use Rattle.mb_sim.specs.declared.status.Status.TheVariants.{Usage, ReadFault, BadBoard, BadImage, WriteFault, NoMemory, BadInput, TooLong}
 use Rattle.mb_sim.specs.Runs.{IsRunOf, code_of, status_of}
 
 -- the board of the file, with its images and inputs, ran with this limit and so much room, and ended so
 pub record HasRun (words : RunWords) (files : Option Files) (board : BoardFile) (last : World) (how : RunEnd) : Type 0 where
   pub views : List View
-  pub inputs : List (List ℕ)
+  pub inputs : Inputs
   pub job : IsJobOf files words.file words.journal board views inputs
   pub ran : IsRunOf board views inputs words.entries words.cycles last how
 
@@ -54,7 +54,6 @@ abbrev pub status_of_refusal : Refusal → Status
 status_of_refusal refusal.Usage = Usage
 status_of_refusal (refusal.CannotRead file) = ReadFault file
 status_of_refusal (refusal.BadBoard code place) = BadBoard code place
-status_of_refusal (refusal.NotYet place) = NotYet place
 status_of_refusal (refusal.BadImage core code at) = BadImage core code at
 status_of_refusal (refusal.BadInput file offset) = BadInput file offset
 status_of_refusal (refusal.TooLong file) = TooLong file

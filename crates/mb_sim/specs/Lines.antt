@@ -3,7 +3,7 @@ use Rattle.std.specs.Prelude.{ℕ, if◌then◌else◌, List, [], ◌++◌, code
 use Rattle.axi_link.specs.declared.item.Item.{Item}
 use Rattle.host_io.specs.Digits.{hex_of}
 use Rattle.mb_sim.specs.declared.status.Status.{Status}
-use Rattle.mb_sim.specs.declared.status.Status.TheVariants.{Ended, Waiting, Stopped, CyclesSpent, JournalFull, Usage, ReadFault, WriteFault, NoMemory, TooLong, BadBoard, BadImage, BadInput, NotYet}
+use Rattle.mb_sim.specs.declared.status.Status.TheVariants.{Ended, Waiting, Stopped, CyclesSpent, JournalFull, Usage, ReadFault, WriteFault, NoMemory, TooLong, BadBoard, BadImage, BadInput}
 
 -- the control bit as a digit
 abbrev pub control_of : Item → List ℕ
@@ -32,4 +32,3 @@ told (BadImage core code at) = codes "mbsim: image of " ++ core ++ codes " " ++ 
 told NoMemory = line_with (codes "no memory") [] []
 told (BadInput file offset) = codes "mbsim: input " ++ file ++ codes " at " ++ decimal offset ++ codes "\n"
 told (TooLong file) = line_with [] file (codes " is too long")
-told (NotYet place) = line_with (codes "not built at ") place []

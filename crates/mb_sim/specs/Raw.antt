@@ -12,7 +12,7 @@ use Rattle.board_file.specs.declared.board.End.TheVariants.{Port, File}
 use Rattle.board_file.specs.declared.board.LinkRow.{LinkRow}
 use Rattle.board_file.specs.declared.board.Pipeline.TheVariants.{Plain}
 use Rattle.board_file.specs.declared.board.Turn.TheVariants.{Ascending}
-use Rattle.board_machine.specs.World.{World, Start}
+use Rattle.board_machine.specs.World.{Inputs, World, Start}
 use Rattle.mb_sim.specs.Lines.{item_line}
 
 -- one plain core with 65,536 bytes
@@ -60,7 +60,11 @@ printed_of e = printed_by e.what
 abbrev pub printed : List Entry → List ℕ
 printed = flat_map printed_of
 
+-- it has no input
+abbrev pub no_inputs : Inputs
+no_inputs = record { links = []; uarts = [] }
+
 -- the board of an image before its first event
 pub record IsRawStart (file image : List ℕ) (w : World) : Type 0 where
-  pub began : Start (raw_board file) (raw_view image ∷ []) [] w
+  pub began : Start (raw_board file) (raw_view image ∷ []) no_inputs w
   pub room : w.fabric.spare ≡ 1_048_576

@@ -7,13 +7,13 @@ use Rattle.board_machine.specs.declared.events.RunEnd.{RunEnd}
 use Rattle.board_machine.specs.declared.events.RunEnd.TheVariants.{Rest as AtRest, CyclesSpent, JournalFull}
 use Rattle.board_machine.specs.Cycles.{RunsTo}
 use Rattle.board_machine.specs.History.{Tells}
-use Rattle.board_machine.specs.World.{World, Start}
+use Rattle.board_machine.specs.World.{Inputs, World, Start}
 use Rattle.mb_sim.specs.declared.status.Status.{Status}
 use Rattle.mb_sim.specs.declared.status.Status.TheVariants as status
 
 -- a run of the board machine from the beginning of a board with these views and inputs, with room for so many entries, by
 -- cycles up to the first of rest, the limit and a full journal
-pub record IsRunOf (b : BoardFile) (views : List View) (inputs : List (List ℕ)) (entries limit : ℕ) (last : World) (end : RunEnd) : Type 0 where
+pub record IsRunOf (b : BoardFile) (views : List View) (inputs : Inputs) (entries limit : ℕ) (last : World) (end : RunEnd) : Type 0 where
   pub first : World
   pub began : Start b views inputs first
   pub room : first.fabric.spare ≡ entries
@@ -36,7 +36,6 @@ code_of status.NoMemory = 9
 code_of status.JournalFull = 10
 code_of (status.BadInput file offset) = 13
 code_of (status.TooLong file) = 15
-code_of (status.NotYet place) = 17
 
 -- the status of a run that ended so
 abbrev pub status_of : RunEnd → Status

@@ -9,13 +9,13 @@ use Rattle.board_load.specs.Jobs.{IsJobOf}
 use Rattle.board_machine.specs.declared.events.Rest.TheVariants as rest
 use Rattle.board_machine.specs.declared.events.RunEnd.{RunEnd}
 use Rattle.board_machine.specs.declared.events.RunEnd.TheVariants as end
-use Rattle.board_machine.specs.World.{World}
+use Rattle.board_machine.specs.World.{Inputs, World}
 use Rattle.command_words.specs.declared.command.Command.{Command}
 use Rattle.command_words.specs.declared.command.Command.TheVariants.{Raw, Run}
 use Rattle.mb_sim.specs.declared.status.Status.{Status}
 use Rattle.mb_sim.specs.declared.status.Status.TheVariants.{Ended, Waiting, Stopped, CyclesSpent, JournalFull, Usage, ReadFault, WriteFault, NoMemory, TooLong}
 use Rattle.mb_sim.specs.Board.{Says as SaysRun}
-use Rattle.mb_sim.specs.Raw.{printed, raw_board, raw_view}
+use Rattle.mb_sim.specs.Raw.{no_inputs, printed, raw_board, raw_view}
 use Rattle.mb_sim.specs.Runs.{IsRunOf}
 
 -- `raw`: a file, and a limit of cycles
@@ -33,7 +33,7 @@ pub record HasRunTo (job : RawJob) (shelf : ShelfState) (how : RunEnd) (last : W
   -- the image is the content of the file, where the shelf tells
   pub told : IfSome shelf.files (λ files. files job.file ≡ Some image)
   pub within : length image ≤ 65_536
-  pub ran : IsRunOf (raw_board job.file) (raw_view image ∷ []) [] default_entries job.cycles last how
+  pub ran : IsRunOf (raw_board job.file) (raw_view image ∷ []) no_inputs default_entries job.cycles last how
 
 -- the command's run ended so, and the sink gained what it prints
 abbrev pub Prints : RawJob → ShelfState → SinkState → SinkState → RunEnd → Type 0
@@ -112,7 +112,7 @@ pub record IsFairRun (file : List ℕ) (journal : Option (List ℕ)) (shelf shel
   pub told : shelf.files ≡ Some files
   pub board : BoardFile
   pub views : List View
-  pub inputs : List (List ℕ)
+  pub inputs : Inputs
   pub job : IsJobOf (Some files) file journal board views inputs
   pub loads : ¬ Rose shelf.faults.load_faults shelf'.faults.load_faults
   pub stores : ¬ Rose shelf.faults.write_faults shelf'.faults.write_faults

@@ -1,6 +1,6 @@
 //! `raw`: a flat image on a board of one plain core, whose port 0 leads to the output.
 ghost use Rattle.std.specs.Prelude.{◌≡◌, ◌≤◌, ◌∷◌, [], IfErr, IfOk, IfSome, OnOk, codes, length};
-ghost use Rattle.mb_sim.specs.Raw.{IsRawStart, memory_of, raw_board, raw_core, raw_link, raw_view};
+ghost use Rattle.mb_sim.specs.Raw.{IsRawStart, memory_of, no_inputs, raw_board, raw_core, raw_link, raw_view};
 ghost use Rattle.mb_sim.specs.Runs.{IsRunOf};
 ghost use Rattle.mb_sim.specs.Top.{CountsLoads, CountsWrites, HasRunTo, Refuses, Says};
 
@@ -102,7 +102,7 @@ fn run_image(
 ) -> Option<Ran>
     requires fits { length image.now ≤ 65_536 }
     requires few { cycles ≤ 1_000_000_000_000 }
-    ensures { IfSome result (λ ran. IsRunOf (raw_board file.now) (raw_view image.now ∷ []) [] 1_048_576 cycles ran.board ran.end) }
+    ensures { IfSome result (λ ran. IsRunOf (raw_board file.now) (raw_view image.now ∷ []) no_inputs 1_048_576 cycles ran.board ran.end) }
 {
     let mut board = board_with(alloc, file, image)?;
     let end = board.run(cycles, probes);

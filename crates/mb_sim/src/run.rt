@@ -99,7 +99,6 @@ fn status_of_refusal(refusal: Refusal) -> Status
         Refusal::Usage => Status::Usage,
         Refusal::CannotRead { file } => Status::ReadFault { file },
         Refusal::BadBoard { code, place } => Status::BadBoard { code, place },
-        Refusal::NotYet { place } => Status::NotYet { place },
         Refusal::BadImage { core, code, at } => Status::BadImage { core, code, at },
         Refusal::BadInput { file, offset } => Status::BadInput { file, offset },
         Refusal::TooLong { file } => Status::TooLong { file },
@@ -112,7 +111,7 @@ fn make_ready(alloc: Global, job: Job, entries: u32) -> Option<Ready>
     requires new { AreNew job.board.cores (map any_state job.cores.items) }
     requires buildable { IsBuildable job.board }
     ensures file { IfSome result (λ r. r.outputs ≡ job.board) }
-    ensures start { IfSome result (λ r. Start job.board (map (λ core. (any_state core).view) job.cores.items) job.inputs.links r.board) }
+    ensures start { IfSome result (λ r. Start job.board (map (λ core. (any_state core).view) job.cores.items) (record { links = job.inputs.links; uarts = job.inputs.uarts }) r.board) }
     ensures room { IfSome result (λ r. r.board.fabric.spare ≡ entries) }
 {
     let Job {

@@ -33,8 +33,6 @@ pub enum Status {
     BadInput { file: FileName, offset: u32 },
     /// The file is longer than its limit.
     TooLong { file: FileName },
-    /// The board has a device, and none can be run yet: its place in the board file.
-    NotYet { place: Place },
 }
 
 impl Status {
@@ -56,7 +54,6 @@ impl Status {
             Status::JournalFull => 10,
             Status::BadInput { .. } => 13,
             Status::TooLong { .. } => 15,
-            Status::NotYet { .. } => 17,
         }
     }
 }

@@ -35,7 +35,6 @@ fn message_line(status: &Status) -> LongText
         Status::BadImage { core, code, at } => image_line(core, *code, *at),
         Status::NoMemory => line_with(b"no memory", b"", b""),
         Status::BadInput { file, offset } => input_line(file, *offset),
-        Status::NotYet { place } => line_with(b"not built at ", place.as_bytes(), b""),
         Status::TooLong { file } => line_with(b"", file.as_bytes(), b" is too long"),
     }
 }

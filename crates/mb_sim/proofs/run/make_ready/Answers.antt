@@ -7,5 +7,5 @@ use Rattle.mb_sim.proofs.run.make_ready.Goals as goal
 
 pub returns-clause-start : goal.returns-clause-start
 returns-clause-start c =
-    built (Start c.args.job.board (map (λ (core : AnyCore). (any_state core).view) c.args.job.cores.items) c.args.job.inputs.links)
+    built (Start c.args.job.board (map (λ (core : AnyCore). (any_state core).view) c.args.job.cores.items) (record { links = c.args.job.inputs.links; uarts = c.args.job.inputs.uarts }))
     c.build.result c.in_ok-board.board c.in_ok-board.ensures.value c.build.ensures.start
