@@ -9,31 +9,31 @@ use std::test::Fail;
 
 /// A run, and what it is to give.
 #[derive(Clone, Copy)]
-struct Row<'a> {
+pub(crate) struct Row<'a> {
     /// The words after the program's name. The board file is `b`.
-    words: &'a [&'a str],
+    pub(crate) words: &'a [&'a str],
     /// The lines of the board file before those of `parts`.
-    head: &'a str,
+    pub(crate) head: &'a str,
     /// The other lines of the board file.
-    parts: &'a str,
+    pub(crate) parts: &'a str,
     /// The words of the images `a.elf` and `b.elf` from address 0 on, as hexadecimal digits.
-    images: [&'a str; 2],
+    pub(crate) images: [&'a str; 2],
     /// The bytes of the file `in`.
-    input: &'a [u8],
+    pub(crate) input: &'a [u8],
     /// The call of the shelf that is to fail, and the bytes that it moves before.
-    shelf_fault: Option<(u64, usize)>,
+    pub(crate) shelf_fault: Option<(u64, usize)>,
     /// The same of the standard output.
-    output_fault: Option<(u64, usize)>,
-    code: u8,
-    printed: &'a str,
-    told: &'a str,
+    pub(crate) output_fault: Option<(u64, usize)>,
+    pub(crate) code: u8,
+    pub(crate) printed: &'a str,
+    pub(crate) told: &'a str,
     /// The files `out` and `journal` after the run, where they are there.
-    left: [Option<&'a [u8]>; 2],
+    pub(crate) left: [Option<&'a [u8]>; 2],
 }
 
 const RUN: &[&str] = &["run", "b"];
 
-const LOGGED: &[&str] = &["run", "b", "--write-journal", "journal"];
+pub(crate) const LOGGED: &[&str] = &["run", "b", "--write-journal", "journal"];
 
 /// Two cores: the first sends 7 to the second, which sends it to the file `out`.
 const RELAY: &str = "
@@ -88,7 +88,7 @@ link.y = {depth = 1, from = 'a', from_port = 0, to_file = 'out'}
 
 impl<'a> Row<'a> {
     /// The run of the relay that ends with status 0.
-    fn relay() -> Self {
+    pub(crate) fn relay() -> Self {
         Row::beside(b"")
     }
 
@@ -162,7 +162,7 @@ fn files(alloc: Global, row: &Row<'_>) -> Result<Vec<MemFile>, Fail> {
 }
 
 /// Makes the run of a row, and compares what it gave.
-fn check(rt: &impl Abort, alloc: Global, row: &Row<'_>) -> Result<(), Fail> {
+pub(crate) fn check(rt: &impl Abort, alloc: Global, row: &Row<'_>) -> Result<(), Fail> {
     let mut shelf = MemShelf::new(files(alloc, row)?, plan(alloc, row.shelf_fault)?);
     let mut script = MemSource::new(Vec::new(alloc), Vec::new(alloc));
     let mut out = MemSink::new(Vec::new(alloc), plan(alloc, row.output_fault)?);
@@ -557,16 +557,6 @@ fn what_is_refused_changes_nothing(rt: HostRuntime) -> Result<(), Fail> {
             input: &[0, 0, 0, 0, 1, 0, 0],
             told: "mbsim: input in at 5\n",
             ..Row::refused(13)
-        },
-        // No image is loaded before.
-        Row {
-            parts: "
-core.a = {image = 'a.elf', pipeline = 'five'}
-timer.t = {core = 'a', base = 65536}
-",
-            images: ["", ""],
-            told: "mbsim: not built at timer.t\n",
-            ..Row::refused(17)
         },
     ];
     for row in &rows {

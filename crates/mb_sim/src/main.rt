@@ -7,6 +7,8 @@
 
 #[cfg(test)]
 mod board_tests;
+#[cfg(test)]
+mod device_tests;
 mod print;
 mod program;
 mod raw;
