@@ -126,8 +126,7 @@ def refusals():
     bad_input = ONE_CORE + '[link.l]\nfrom_file = "in"\nto = "c"\nto_port = 0\n'
     done = run(bad_input, {"c.elf": [END]}, {"in": bytes([0, 0, 0, 0, 1, 0, 0])})
     check("a cut item", (done.status, done.err), (13, "mbsim: input in at 5\n"))
-    done = run(ONE_CORE + '[timer.t]\ncore = "c"\nbase = 65536\n', {})
-    check("a timer", (done.status, done.err), (17, "mbsim: not built at timer.t\n"))
+
     check("no image", (run(ONE_CORE, {}).status, run(ONE_CORE, {}).err), (5, "mbsim: cannot read c.elf\n"))
     check("an image too low", run(ONE_CORE, {"c.elf": {0xFFFC: [0, 0]}}).err, "mbsim: image of c 709 at 0\n")
 
