@@ -55,12 +55,13 @@ def relay():
               (0, report, {"out": bytes([0, 0, 0, 0, 7]), "journal": journal.encode()}))
 
 
-def deferred_breaks():
+def deferred_breaks(more=""):
+    """With more tables that change nothing."""
     words = {0: [0xB8080040], 0x18: [0xB6500000, 0x80000000],
              0x40: [0xB0001234, 0x30605678, 0xB8100008, 0x30800001, 0x80000000, 0x6C038800, 0x6C048000, END]}
     for cycle, taken, r16 in ((2, 3, 0x48), (4, 5, 0x50), (6, 8, 0x5C)):
         event = f'[event.e]\ncore = "c"\ncycle = {cycle}\nkind = "break"\n'
-        done = run(ONE_CORE + OUT.format(depth=16) + event, {"c.elf": words})
+        done = run(ONE_CORE + OUT.format(depth=16) + event + more, {"c.elf": words})
         check("deferred break", (done.status, done.files["out"]), (0, bytes.fromhex("00 12345678 00 00000001")))
         took = [line for line in done.files["journal"].decode().splitlines() if "took" in line]
         # no act before the break is missed, so its number is that of its cycle
