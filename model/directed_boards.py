@@ -152,18 +152,20 @@ AGAIN = write(TIMER, 0x0, 0x1D2, 28) + ACKNOWLEDGE + BACK
 ONCE = write(TIMER, 0x0, 0x100, 28) + ACKNOWLEDGE + BACK
 ECHO = [word("lwi", rd=28, ra=UART), word("swi", rd=28, ra=UART, low=4)] + ACKNOWLEDGE + BACK
 TYPING = write(UART, 0xC, 0x13)
+# more than TX holds, its status, and nothing left
+FILL = [word("swi", rd=UART, ra=UART, low=4)] * 20 + [word("lwi", rd=3, ra=UART, low=8)] + write(UART, 0xC, 1)
 SLEEPS = [SLEEP] * 3 + [IE_OFF] + SENDS + [END]
 OUTSIDE = [word("imm", low=1), word("addik", rd=UART), word("imm"), word("brai", low=0xFFE4)]
 WITH_DEVICES = [
     ("a timer that wakes a sleeper", LISTEN + start_timer(40) + [IE_ON] + SLEEPS, [], {HANDLER: AGAIN}),
     ("a timer beside a break", LISTEN + start_timer(40) + [IE_ON] + SLEEPS, [(75, "break"), (76, "nonmaskable")], {HANDLER: AGAIN}),
-    ("a timer and a break in one cycle", LISTEN + start_timer(5) + [IE_ON] + [NOTHING] * 20 + [IE_OFF] + SENDS + [END], [(27, "break")], {HANDLER: ONCE}),
+    ("a timer and a break in one cycle", LISTEN + start_timer(5) + [IE_ON] + [NOTHING] * 20 + [IE_OFF] + SENDS + [END], [(21, "break")], {HANDLER: ONCE}),
     ("an interrupt while BIP is set", LISTEN + start_timer(5) + [0x9410000A] + [NOTHING] * 12 + [0x94110008] + [NOTHING] * 4 + SENDS + [END], [], {HANDLER: ONCE}),
     ("an interrupt while EIP is set", LISTEN + start_timer(5) + [0x94100202] + [NOTHING] * 12 + [0x94110200] + [NOTHING] * 4 + SENDS + [END], [], {HANDLER: ONCE}),
     ("a handler that doesn't acknowledge", LISTEN + start_timer(5) + [IE_ON] + SENDS + [END], [], {HANDLER: BACK}),
     ("a handler that acknowledges before it clears", LISTEN + start_timer(5) + [IE_ON] + [NOTHING] * 20 + [IE_OFF] + SENDS + [END], [],
      {HANDLER: ACKNOWLEDGE + write(TIMER, 0x0, 0x100, 28) + BACK}),
-    ("a handler that lets another in", LISTEN + start_timer(30) + [IE_ON] + SLEEPS, [], {HANDLER: [IE_ON] + AGAIN}),
+    ("a handler that lets itself in", LISTEN + start_timer(30) + [IE_ON] + SLEEPS, [], {HANDLER: [IE_ON] + AGAIN}),
     ("an end that an interrupt can reach", LISTEN + start_timer(30) + [IE_ON, END], [], {HANDLER: AGAIN}),
     ("an end that none can reach", LISTEN + start_timer(5) + [NOTHING] * 9 + [END], [], {HANDLER: AGAIN}),
     ("a line that goes down before IE is set", LISTEN + start_timer(2) + [NOTHING] * 4 + write(TIMER, 0x0, 0x100) + ACKNOWLEDGE + [IE_ON, IE_OFF] + SENDS + [END], [], {HANDLER: AGAIN}),
@@ -176,8 +178,8 @@ WITH_DEVICES = [
     ("bytes that come while none listens", [SLEEP, END], [(250, "break")], {}),
     ("an edge that has no number", write(INTC, 0x8, 2) + write(INTC, 0x1C, 3) + TYPING + [IE_ON, SLEEP, END], [], {HANDLER: ECHO}),
     ("an edge before the controller listens", TYPING + [NOTHING] * 45 + LISTEN + [IE_ON, SLEEP, END], [], {HANDLER: ECHO}),
-    ("a full UART with exceptions on", [0x94100100] + write(UART, 0x4, 0x41) * 18 + SENDS + [END], [], {}),
-    ("a full UART with exceptions off", write(UART, 0x4, 0x41) * 18 + SENDS + [END], [], {}),
+    ("a full UART with exceptions on", [0x94100100] + FILL + SENDS + [END], [], {}),
+    ("a full UART with exceptions off", FILL + SENDS + [END], [], {}),
     ("an empty UART", [0x94100100] + [word("lwi", rd=3, ra=UART)] * 2 + SENDS + [END], [], {}),
     ("a UART's status", [word("lwi", rd=3, ra=UART, low=8), SEND] * 3 + write(UART, 0x4, 0x41) + [word("lwi", rd=3, ra=UART, low=8), SEND] * 40 + [END], [], {}),
     ("bytes and halves of a device", [0x94100100, word("sbi", rd=3, ra=UART, low=4), word("lhui", rd=3, ra=UART, low=8), word("lbui", rd=3, ra=TIMER)] + SENDS + [END], [], {}),
