@@ -51,6 +51,38 @@ def touch(chance, devices):
     return write_word(chance, base, chance.choice(STRANGE) if strange else offset, value)
 
 
+# a walk: long random uses of registers, each followed by a look
+
+STATUS_BITS = {0x2: 0.5, 0x4: 0.1, 0x10: 0.4, 0x20: 0.15, 0x40: 0.5, 0x80: 0.7, 0x100: 0.3, 0x400: 0.25}
+
+
+def status_word(chance):
+    """A word for TCSR: any bits that are taken, now and then with one that is refused."""
+    word = sum(bit for bit, often in STATUS_BITS.items() if chance.random() < often)
+    return word | 1 << chance.choice((0, 3, 9, *range(11, 32))) if chance.random() < 0.06 else word
+
+
+def walk_write(chance, kind):
+    """An offset and a word to write there."""
+    if kind == "timer":
+        offset = chance.choice((0x0, 0x0, 0x0, 0x4, 0x8)) + chance.choice((0, 0x10))
+        return offset, status_word(chance) if offset % 0x10 == 0 else chance.randrange(-4, 4) & 0xFFFFFFFF
+    if kind == "intc":
+        offset = chance.choice((0x0, 0x0, 0x8, 0x8, 0xC, 0x10, 0x14, 0x1C))
+        return offset, chance.choice((0, 1, 1, 2, 3)) if offset == 0x1C else chance.getrandbits(32) & chance.getrandbits(32)
+    offset = chance.choice((0x4, 0x4, 0x4, 0xC))
+    return offset, chance.choice((0, 0x10, 0x11, 0x12, 0x13, 1, 2)) if offset == 0xC else chance.getrandbits(9)
+
+
+def walk(chance, devices):
+    kind, base = chance.choice(devices)
+    offset, value = walk_write(chance, kind)
+    words = put_register(22, value) + [word_of(chance, "swi", rd=22, ra=base, low=offset)]
+    words += words[-1:] * chance.randrange(1, 20) if kind == "uart" and chance.random() < 0.1 else []
+    looks = [word_of(chance, "lwi", rd=some_register(chance), ra=base, low=chance.choice(READS[kind])) for _ in range(chance.randrange(3))]
+    return words + [NOTHING] * chance.choice((0, 0, 0, 1, 2, 3, 8)) + looks
+
+
 def start(chance, kind, base):
     """What makes a device work."""
     if kind == "intc":
@@ -112,9 +144,11 @@ def image(chance, ports, devices):
     for kind, base in devices:
         begin += start(chance, kind, base) if chance.random() < 0.8 else []
     begin += [0x94100000 | IE] * (chance.random() < 0.85)
-    body = [word for _ in range(chance.randrange(4, 16)) for word in middle(chance, ports, devices)]
-    if chance.random() < 0.4:
-        body += random_boards.traffic(chance, ports, False)
+    if chance.random() < 0.35:
+        body = [word for _ in range(chance.randrange(20, 50)) for word in walk(chance, devices)]
+    else:
+        body = [word for _ in range(chance.randrange(4, 16)) for word in middle(chance, ports, devices)]
+        body += random_boards.traffic(chance, ports, False) if chance.random() < 0.4 else []
     ending = chance.choice(([END], [0x94110000 | IE, END], [0x94110000 | IE, END], [word_of(chance, "mbar", rd=24), END], [0xB8000000 | -4 * len(body) & 0xFFFF]))
     order = chance.choice(("big", "big", "little"))
     vectors = [0xB8080040] + [NOTHING] * 3 + VECTORS

@@ -53,6 +53,10 @@ def timer_reload():
     check("its cycles", seen, [(2, 0, False), (1, 0, False), (0, 0, False), (0xFFFFFFFF, 1, True), (3, 1, True), (2, 1, True)])
     timer.access(0x0, 0x1D2)
     check("a cleared TINT", (timer.access(0x0), timer.line), (0xD2, False))
+    timer.access(0x0, 0xA2)
+    for _ in range(2):
+        timer.cycle()
+        check("LOAD goes before ENT", timer.access(0x8), 3)
 
 
 def timer_bits():
@@ -83,6 +87,9 @@ def intc_acknowledge():
     asking.cycle()
     intc = devices.Controller([(0, asking)])
     intc.access(0x8, 1)
+    intc.access(0x1C, 1)
+    intc.cycle()
+    check("an input without HIE", (intc.access(0x0), intc.line), (0, False))
     intc.access(0x1C, 3)
     intc.cycle()
     check("an input", [intc.access(offset) for offset in (0x0, 0x4, 0x18)] + [intc.line], [1, 1, 0, True])
@@ -95,7 +102,10 @@ def intc_acknowledge():
 def intc_registers():
     intc = devices.Controller()
     intc.access(0x0, 0x90)
+    intc.access(0x1C, 1)
+    check("ISR alone makes no line", intc.line, False)
     intc.access(0x10, 0xFFFFFFFF)
+    check("two requests", (intc.access(0x18), intc.line), (4, True))
     intc.access(0x14, 0x10)
     check("ISR, IPR, IER, IVR", [intc.access(offset) for offset in (0x0, 0x4, 0x8, 0x18)], [0x90, 0x80, 0xFFFFFFEF, 7])
     check("what reads 0", [intc.access(offset) for offset in (0xC, 0x10, 0x14)], [0, 0, 0])
