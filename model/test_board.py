@@ -13,13 +13,16 @@ ONE_CORE = 'version = 1\n[core.c]\nimage = "c.elf"\npipeline = "plain"\n'
 OUT = '[link.l]\ndepth = {depth}\nfrom = "c"\nfrom_port = 0\nto_file = "out"\n'
 
 
+def image_of(listed):
+    parts = listed if isinstance(listed, dict) else {0: listed}
+    return elf.write(elf.Image("big", 0, [elf.Part(at, elf.words(words)) for at, words in parts.items()]))
+
+
 def run(text, images, inputs=(), **options):
-    """The outcome of a board file; `images` maps a name to words from address 0, or to parts of words."""
+    """The outcome of a board file; `images` maps a name to words from address 0, to parts of words, or to the bytes of a file."""
     with tempfile.TemporaryDirectory() as folder:
         for name, listed in images.items():
-            parts = listed if isinstance(listed, dict) else {0: listed}
-            image = elf.Image("big", 0, [elf.Part(at, elf.words(listed)) for at, listed in parts.items()])
-            pathlib.Path(folder, name).write_bytes(elf.write(image))
+            pathlib.Path(folder, name).write_bytes(listed if isinstance(listed, bytes) else image_of(listed))
         for name, data in dict(inputs).items():
             pathlib.Path(folder, name).write_bytes(data)
         pathlib.Path(folder, "board.toml").write_text(text)

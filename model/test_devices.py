@@ -1,6 +1,9 @@
 #!/usr/bin/env python3
 """Tests the devices of the model, alone and on boards, by runs whose results were worked out by hand, step by step."""
+import struct
+
 import devices
+import elf
 import test_board
 from directed_boards import word
 from random_boards import END, NOTHING
@@ -166,12 +169,18 @@ INTERRUPTED = {0: TO_MAIN, 0x10: [0x6C038000, 0x6C0E8000, END], 0x40: [
 STORES = ("41200008 00000001", "4120001C 00000003", "41C00004 00000001", "41C00000 00000020", "41C00000 000000D2")
 
 
+def interrupted(pipeline):
+    text = core_text(pipeline) + OUT.format(depth=16) + device_text("intc", INTC) + device_text("timer", TIMER, irq=0)
+    return run(text, {"c.elf": INTERRUPTED})
+
+
 def timer_interrupt():
     """On three a store takes two ticks, so the interrupt comes before the prefix; on the others a prefix holds it off."""
     for pipeline, cycles, lineup, act, stores, sends in (("plain", 21, 16, 16, (7, 8, 9, 11, 14), (18, 19)),
                                                          ("three", 30, 24, 15, (11, 13, 15, 18, 22), (27, 28))):
-        done = run(core_text(pipeline) + OUT.format(depth=16) + device_text("intc", INTC) + device_text("timer", TIMER, irq=0), {"c.elf": INTERRUPTED})
-        taken, took, words = (act + 1, lineup + 1, ("12345678", "00000080")) if pipeline == "plain" else (act, lineup, ("41200000", "00000078"))
+        done = interrupted(pipeline)
+        late, words = (1, ("12345678", "00000080")) if pipeline == "plain" else (0, ("41200000", "00000078"))
+        taken, took = act + late, lineup + late
         wanted = [f"{cycle} c {number} wrote {told}" for cycle, number, told in zip(stores, (7, 8, 9, 11, 14), STORES)]
         wanted += [f"{lineup} c {act} lineup", f"{took} c {taken} took interrupt"]
         for number, (sent, told) in enumerate(zip(sends, words), taken + 1):
@@ -180,21 +189,35 @@ def timer_interrupt():
         check(f"a timer's interrupt on {pipeline}", (done.out, journal_of(done)), (report, wanted))
         check("its file", (done.status, done.files["out"]), (0, bytes.fromhex("00" + words[0] + "00" + words[1])))
     for pipeline in ("five", "eight"):
-        done = run(core_text(pipeline) + OUT.format(depth=16) + device_text("intc", INTC) + device_text("timer", TIMER, irq=0), {"c.elf": INTERRUPTED})
+        done = interrupted(pipeline)
         check(f"the same on {pipeline}", (done.status, done.files["out"]), (0, bytes.fromhex("00123456780000000080")))
 
 
+def with_sections(image):
+    """A little-endian image with a symbol table and its names behind it, as a linker leaves them."""
+    names, table = b"\0main\0", bytes(16) + struct.pack("<IIIBBH", 1, 0x50, 0, 18, 0, 1)
+    rows = [(0,) * 10, (0, 2, 0, 0, len(image), len(table), 2, 1, 4, 16), (0, 3, 0, 0, len(image) + len(table), len(names), 0, 0, 1, 0)]
+    place = len(image) + len(table) + len(names)
+    header = bytearray(image[:52])
+    struct.pack_into("<I", header, 32, place)
+    struct.pack_into("<HHH", header, 46, 40, len(rows), 2)
+    return bytes(header) + image[52:] + table + names + b"".join(struct.pack("<10I", *row) for row in rows)
+
+
 def polled_uart():
-    """Three bytes, each written where STAT tells room. The first cycle of the UART with a byte to send is number 64."""
+    """An image as the GNU tools lay one out, with its vectors at 0 and a bss. It sends three bytes, each where STAT tells room. The
+    first cycle of the UART with a byte to send is number 64."""
     send = [word("lwi", rd=4, ra=3, low=8), word("andi", rd=4, ra=4, low=8), word("bnei", ra=4, low=-8)]
     main = to_register(3, UART)
     for letter in b"Hi\n":
         main += send + [word("addik", rd=5, low=letter), word("swi", rd=5, ra=3, low=4)]
-    done = run(core_text() + device_text("uart", UART, output="out"), {"c.elf": {0: TO_MAIN, 0x40: main + [END]}})
+    parts = [elf.Part(0, elf.words([0xB8080050], "little")), elf.Part(0x50, elf.words(main + [END], "little"), 64)]
+    image = with_sections(elf.write(elf.Image("little", 0, parts)))
+    done = run(core_text() + device_text("uart", UART, output="out"), {"c.elf": image})
     wanted = ["3 c 3 read 40600008 00000004", "7 c 7 wrote 40600004 00000048", "8 c 8 read 40600008 00000000", "12 c 12 wrote 40600004 00000069",
               "13 c 13 read 40600008 00000000", "17 c 17 wrote 40600004 0000000A", "64 - 0 left u 48", "128 - 0 left u 69", "192 - 0 left u 0A"]
     check("a polled UART", (done.status, done.files["out"], journal_of(done)), (0, b"Hi\n", wanted))
-    check("its report", done.out, "status 0 cycles 193 entries 9\ncore c ended pc 00000084 acts 18\nuart u left 3\n")
+    check("its report", done.out, "status 0 cycles 193 entries 9\ncore c ended pc 00000094 acts 18\nuart u left 3\n")
 
 
 def woken_by_a_byte():
