@@ -133,7 +133,7 @@ class Board:
     def latch(self):
         """Each core's line, as its ticks see it."""
         for (name, _, _, ports), acts in zip(self.cores, self.acts):
-            line = ports.bus.line()
+            line = ports.bus.line
             if line != ports.line:
                 self.enter(name, acts, "lineup" if line else "linedown")
             ports.line = line

@@ -43,6 +43,13 @@ class Counter:
         self.status = self.load = self.count = 0
         self.over = False  # the count has passed its end
 
+    def registers(self, control):
+        return {
+            0x0: (lambda: self.status, lambda word: control(self, word)),  # TCSR
+            0x4: (lambda: self.load, self.put_load),                       # TLR
+            0x8: (lambda: self.count, nothing),                            # TCR
+        }
+
     def put_load(self, word):
         self.load = word
 
@@ -67,15 +74,11 @@ class Counter:
 class Timer(Device):
     def __init__(self):
         self.counters = Counter(), Counter()
-        self.registers = {}
-        for place, one in zip((0x00, 0x10), self.counters):
-            self.registers |= {
-                place + 0x0: (lambda one=one: one.status, lambda word, one=one: self.control(one, word)),
-                place + 0x4: (lambda one=one: one.load, one.put_load),
-                place + 0x8: (lambda one=one: one.count, nothing),
-            }
+        self.registers = {place + offset: register for place, one in zip((0x00, 0x10), self.counters)
+                          for offset, register in one.registers(self.control).items()}
 
     def control(self, one, word):
+        """A write of one counter's TCSR; ENALL is both counters'."""
         if word & REFUSED:
             raise BadAccess
         one.status = one.status & ~(TAKEN | TINT & word) | word & TAKEN
@@ -184,18 +187,18 @@ class Uart(Device):
         self.enabled = bool(word & ENABLE)
 
     def cycle(self, number):
-        """The byte that left, or None. The line is high for the one cycle after an edge."""
+        """What the UART does in the board's cycle of this number: the byte that left, or None. The line is high in the one cycle
+        of an edge."""
         self.line = False
         if number % self.every:
             return None
+        emptied, filled = len(self.tx) == 1, bool(self.given and not self.rx)
+        self.line = self.enabled and (emptied or filled)
         byte = self.tx.popleft() if self.tx else None
-        emptied = byte is not None and not self.tx
-        filled = self.given and not self.rx
-        if self.given:
-            self.arrive(self.given.popleft())
-        self.line = bool(self.enabled and (emptied or filled))
         if byte is not None:
             self.left.append(byte)
+        if self.given:
+            self.arrive(self.given.popleft())
         return byte
 
     def arrive(self, byte):
@@ -224,5 +227,6 @@ class Bus:
         except BadAccess:
             return None
 
+    @property
     def line(self):
         return self.controller is not None and self.controller.line
