@@ -19,27 +19,24 @@ use Rattle.timing_law.specs.declared.past.Past.{Past}
 use Rattle.timing_law.specs.Table.{branch_of, divide_extra, extra_for, first_of, is_divide, is_memory, late_of, memory_hold, ready_of, redirected, turn_of}
 use Rattle.timing_law.specs.Past.{begins_at, due_at, fresh, greatest_read, marked, operands_at, used}
 use Rattle.timing_law.specs.Passing.{instr_of, jump_of, passed_by, retired_here}
-use Rattle.pipe_latch.specs.Clocks.{Clocked, IsTimed, moved, steps_at}
+use Rattle.prepared_act.specs.declared.flow.Flow.{Flow}
+use Rattle.pipe_latch.specs.Clocks.{Clocked, IsNear, IsSet, IsTimed, filled, holds, jump_by, moved, set, stayed, wait_of, went}
 
--- counters tell whether a stage holds an instruction back
-lt_max : (t a b : ℕ) → nat_lt t (max a b) ≡ (nat_lt t a || nat_lt t b)
-lt_max t a b = grind arith
+-- the counters tell in how many ticks no stage holds the instruction back
+lt_zero : (a b : ℕ) → (nat_lt 0 a || nat_lt 0 b) ≡ nat_lt 0 (max a b)
+lt_zero a b = grind arith
 
-lt_less : (t a c : ℕ) → c ≡ a - t → nat_lt 0 c ≡ nat_lt t a
-lt_less t a c is = grind (arith, is)
+pub waits_so : (start refill busy operands : ℕ) → (nat_lt 0 start || nat_lt 0 refill || nat_lt 0 busy || nat_lt 0 operands) ≡ nat_lt 0 (wait_of start refill busy operands)
+waits_so start refill busy operands = ? 
 
-lt_slot : (t a c : ℕ) (in_slot : Bool) → c ≡ a - t → (not in_slot && nat_lt 0 c) ≡ nat_lt t (if in_slot then 0 else a)
-lt_slot t a c true is = grind arith
-lt_slot t a c false is = lt_less t a c is
+less_one : (a b : ℕ) → max (a - 1) (b - 1) ≡ max a b - 1
+less_one a b = omega arith
 
-pub waits_so : (t : Clocked) (start refill busy : ℕ) (i : Option Instr) (in_slot : Bool) → IsTimed t start refill busy
-    → (nat_lt 0 start || (not in_slot && nat_lt 0 refill) || nat_lt 0 busy || nat_lt t.ticks (operands_at i t.past.ready)) ≡ nat_lt t.ticks (begins_at t.past i in_slot)
-waits_so t start refill busy i in_slot h =
-    let redirect = if in_slot then 0 else t.past.redirect in
-    let operands = operands_at i t.past.ready in
-    rw (lt_less t.ticks t.past.first start h.start, lt_slot t.ticks t.past.redirect refill in_slot h.refill, lt_less t.ticks t.past.next busy h.busy)
-    (sym (lt_max t.ticks (max (max t.past.first redirect) t.past.next) operands
-    ∙ ap (λ z. z || nat_lt t.ticks operands) (lt_max t.ticks (max t.past.first redirect) t.past.next ∙ ap (λ z. z || nat_lt t.ticks t.past.next) (lt_max t.ticks t.past.first redirect))))
+pub wait_falls : (start refill busy operands : ℕ) → wait_of (start - 1) (refill - 1) (busy - 1) (operands - 1) ≡ wait_of start refill busy operands - 1
+wait_falls start refill busy operands = omega arith
+
+pub wait_set : (first redirect next operands ticks : ℕ) → wait_of (first - ticks) (redirect - ticks) (next - ticks) (operands - ticks) ≡ max (max (max first redirect) next) operands - ticks
+wait_set first redirect next operands ticks = omega arith
 
 -- and with the steps of the divider whether it is due
 few_extra_by : (p : Pipe) (b : Bool) → (if b then divide_extra p else 0) ≤ 33
@@ -53,26 +50,71 @@ pub few_extra : (p : Pipe) (i : Option Instr) → extra_for p i ≤ 33
 few_extra p None = omega arith
 few_extra p (Some i) = few_extra_by p (is_divide (kind_of i.op))
 
-due_by : (t b s e : ℕ) (w : Bool) → nat_lt t b ≡ w → s ≡ min 33 (t - b) → e ≤ 33 → (w || nat_lt s e) ≡ nat_lt t (b + e)
-due_by t b s e true is steps few = grind (arith, is)
-due_by t b s e false is steps few = grind (arith, is, steps, few)
+due_by : (t b w s e : ℕ) → w ≡ b - t → s ≡ min 33 (t - b) → e ≤ 33 → (nat_lt 0 w || nat_lt s e) ≡ nat_lt t (b + e)
+due_by t b w s e wait steps few = grind (arith, wait, steps, few)
 
-pub early_so : (t : Clocked) (i : Option Instr) (in_slot : Bool) → t.steps ≡ steps_at t.past t.ticks i in_slot
-    → (nat_lt t.ticks (begins_at t.past i in_slot) || nat_lt t.steps (extra_for t.past.pipe i)) ≡ nat_lt t.ticks (due_at t.past i in_slot)
+pub holds_so : (t : Clocked) (i : Option Instr) (in_slot : Bool) → IsSet t i in_slot → holds t ≡ nat_lt t.ticks (due_at t.past i in_slot)
 unfolding due_at
-early_so t i in_slot steps = due_by t.ticks (begins_at t.past i in_slot) t.steps (extra_for t.past.pipe i) _ refl steps (few_extra t.past.pipe i)
+holds_so t i in_slot h = due_by t.ticks (begins_at t.past i in_slot) t.wait t.steps t.extra h.wait h.steps (rw h.extra (few_extra t.past.pipe i)) ∙ ap (λ e. nat_lt t.ticks (begins_at t.past i in_slot + e)) h.extra
 
--- a step in each tick in which nothing before the divider holds the instruction back
-pub step_one : (t b s : ℕ) → nat_lt t b ≡ false → s ≡ min 33 (t - b) → s < 33 → s + 1 ≡ min 33 ((t + 1) - b)
-step_one t b s is steps lt = let le : b ≤ t = grind (arith, is) in omega (arith, le, steps, lt)
+-- a tick passes
+step_by : (t b w s : ℕ) → w ≡ b - t → s ≡ min 33 (t - b) → (if nat_lt 0 w then s else min 33 (s + 1)) ≡ min 33 ((t + 1) - b)
+step_by t b w s wait steps = grind (arith, wait, steps)
 
-pub step_none : (t b s : ℕ) → nat_lt t b ≡ true → s ≡ min 33 (t - b) → s ≡ min 33 ((t + 1) - b)
-step_none t b s is steps = let lt : t < b = grind (arith, is) in omega (arith, lt, steps)
+pub stays_set : (t : Clocked) (i : Option Instr) (in_slot : Bool) → IsSet t i in_slot → IsSet (stayed t) i in_slot
+stays_set t i in_slot h = record {
+  wait = omega (arith, h.wait);
+  steps = step_by t.ticks (begins_at t.past i in_slot) t.wait t.steps h.wait h.steps;
+  extra = h.extra;
+}
 
-pub step_last : (t b s : ℕ) → s ≡ min 33 (t - b) → 33 ≤ s → s ≡ min 33 ((t + 1) - b)
-step_last t b s steps le = omega (arith, steps, le)
+pub fills_set : (t : Clocked) (i : Option Instr) (in_slot : Bool) → IsSet t i in_slot → IsSet (filled t) i in_slot
+fills_set t i in_slot h = let s = stays_set t i in_slot h in record { wait = s.wait; steps = s.steps; extra = s.extra }
 
--- a new core, a tick that passes, and one that fills
+pub begins_set : (t : Clocked) (i : Option Instr) (in_slot : Bool) → IsSet (set i in_slot t) i in_slot
+begins_set t i in_slot = record { wait = refl; steps = refl; extra = refl }
+
+near_more : (x : Past) (high more : ℕ) → IsNear x high → high ≤ more → IsNear x more
+near_more x high more h le = record {
+  registers = h.registers;
+  first = omega (arith, h.first, le);
+  redirect = omega (arith, h.redirect, le);
+  next = omega (arith, h.next, le);
+  ready = λ r. let here = h.ready r in omega (arith, here, le);
+}
+
+covers_by : (wait steps extra slack : ℕ) → wait + (extra - steps) ≤ slack → (wait - 1) + (extra - (if nat_lt 0 wait then steps else min 33 (steps + 1))) ≤ slack
+covers_by wait steps extra slack le = grind (arith, le)
+
+pub stays_timed : (t : Clocked) → IsTimed t → IsTimed (stayed t)
+stays_timed t h = record {
+  slack = h.slack;
+  fewer = omega (arith, h.fewer);
+  near = near_more t.past (t.ticks + 30) (t.ticks + 1 + 30) h.near (omega arith);
+  extra = h.extra;
+  covered = covers_by t.wait t.steps t.extra t.slack h.covered;
+}
+
+fewer_by : (wait steps extra slack : ℕ) → extra ≤ 33 → (nat_lt 0 wait || nat_lt steps extra) ≡ true → wait + (extra - steps) ≤ slack
+    → (0 < slack) × ((wait - 1) + (extra - (if nat_lt 0 wait then steps else min 33 (steps + 1))) ≤ slack - 1)
+fewer_by wait steps extra slack few holds le = (grind (arith, few, holds, le), grind (arith, few, holds, le))
+
+-- the slack covers the ticks before the next act
+pub has_slack : (t : Clocked) → IsTimed t → holds t ≡ true → 0 < t.slack
+has_slack t h held = (fewer_by t.wait t.steps t.extra t.slack h.extra held h.covered).0
+
+pub fills_timed : (t : Clocked) → IsTimed t → holds t ≡ true → IsTimed (filled t)
+fills_timed t h held =
+    let s = stays_timed t h in
+    record {
+      slack = omega (arith, h.slack);
+      fewer = s.fewer;
+      near = s.near;
+      extra = s.extra;
+      covered = (fewer_by t.wait t.steps t.extra t.slack h.extra held h.covered).1;
+    }
+
+-- a new core
 zero_at : (n r : ℕ) → slice_index (replicate n 0) r ≡ 0
 zero_at n r = grind (arith, get_or-replicate, get_or_past, length-replicate)
 
@@ -82,84 +124,18 @@ few_first Three = omega arith
 few_first Five = omega arith
 few_first Eight = omega arith
 
-pub new_is_timed : (p : Pipe) → IsTimed (record { acts = 0; ticks = 0; slack = 63; steps = 0; past = fresh p }) (first_of p) 0 0
-new_is_timed p = record {
-  start = omega arith;
-  refill = omega arith;
-  busy = omega arith;
-  slack = omega arith;
-  fewer = omega arith;
-  registers = refl;
-  first = let few = few_first p in omega (arith, few);
-  redirect = omega arith;
-  next = omega arith;
-  ready = λ r. rw (zero_at 32 r) (omega arith);
-}
-
-pub stays_timed : (t : Clocked) (start refill busy steps : ℕ) → IsTimed t start refill busy
-    → IsTimed (record t { ticks = t.ticks + 1; steps = steps }) (start - 1) (refill - 1) (busy - 1)
-stays_timed t start refill busy steps h = record {
-  start = omega (arith, h.start);
-  refill = omega (arith, h.refill);
-  busy = omega (arith, h.busy);
-  slack = h.slack;
-  fewer = omega (arith, h.fewer);
-  registers = h.registers;
-  first = omega (arith, h.first);
-  redirect = omega (arith, h.redirect);
-  next = omega (arith, h.next);
-  ready = λ r. let le = h.ready r in omega (arith, le);
-}
-
-used_near : (reads : Bool) (n high : ℕ) → n + 33 ≤ high → used reads n + 33 ≤ high
-used_near true n high le = le
-used_near false n high le = omega (arith, le)
-
-read_near : (i : Option Instr) (f : ℕ → ℕ) (high : ℕ) → ((r : ℕ) → f r + 33 ≤ high) → greatest_read i f + 33 ≤ high
-read_near None f high all = let le = all 0 in omega (arith, le)
-read_near (Some i) f high all =
-    let a = used_near (reads_a i) (f i.ra) high (all i.ra) in
-    let b = used_near (reads_b i) (f i.rb) high (all i.rb) in
-    let d = used_near (reads_d i) (f i.rd) high (all i.rd) in
-    omega (arith, a, b, d)
-
-slot_near : (in_slot : Bool) (n high : ℕ) → n + 33 ≤ high → (if in_slot then 0 else n) + 33 ≤ high
-slot_near true n high le = omega (arith, le)
-slot_near false n high le = le
-
--- the slack covers all ticks before the one that is due
-pub has_slack : (t : Clocked) (start refill busy : ℕ) (i : Option Instr) (in_slot : Bool) → IsTimed t start refill busy → nat_lt t.ticks (due_at t.past i in_slot) ≡ true → 0 < t.slack
-unfolding due_at operands_at
-has_slack t start refill busy i in_slot h early =
-    let read = read_near i (λ r. slice_index t.past.ready r) (t.ticks + t.slack) h.ready in
-    let slot = slot_near in_slot t.past.redirect (t.ticks + t.slack) h.redirect in
-    let few = few_extra t.past.pipe i in
-    let lt : t.ticks < max (max (max t.past.first (if in_slot then 0 else t.past.redirect)) t.past.next) (greatest_read i (λ r. slice_index t.past.ready r)) + extra_for t.past.pipe i = grind (arith, early) in
-    omega (arith, read, slot, few, lt, h.first, h.next)
-
-pub fills_timed : (t : Clocked) (start refill busy steps : ℕ) → IsTimed t start refill busy → 0 < t.slack
-    → IsTimed (record t { ticks = t.ticks + 1; steps = steps; slack = t.slack - 1 }) (start - 1) (refill - 1) (busy - 1)
-fills_timed t start refill busy steps h some = record {
-  start = omega (arith, h.start);
-  refill = omega (arith, h.refill);
-  busy = omega (arith, h.busy);
-  slack = omega (arith, h.slack);
-  fewer = omega (arith, h.fewer);
-  registers = h.registers;
-  first = omega (arith, h.first, some);
-  redirect = omega (arith, h.redirect, some);
-  next = omega (arith, h.next, some);
-  ready = λ r. let le = h.ready r in omega (arith, le, some);
-}
+pub new_is_timed : (p : Pipe) → IsTimed (record { acts = 0; ticks = 0; slack = 63; wait = first_of p; steps = 0; extra = 0; past = fresh p })
+new_is_timed p =
+    let few = few_first p in
+    record {
+      slack = omega arith;
+      fewer = omega arith;
+      near = record { registers = refl; first = omega (arith, few); redirect = omega arith; next = omega arith; ready = λ r. rw (zero_at 32 r) (omega arith) };
+      extra = omega arith;
+      covered = omega (arith, few);
+    }
 
 -- what an act makes of the numbers lies near
-record IsNear (x : Past) (high : ℕ) : Type 0 where
-  registers : length x.ready ≡ 32
-  first : x.first ≤ high
-  redirect : x.redirect ≤ high
-  next : x.next ≤ high
-  ready : (r : ℕ) → slice_index x.ready r ≤ high
-
 few_hold_by : (p : Pipe) (b : Bool) → (if b then memory_hold p else 1) ≤ 2
 few_hold_by Plain true = omega arith
 few_hold_by Three true = omega arith
@@ -233,34 +209,50 @@ passed_near (acts.Took take) i jump x at high h near = turned_near x at high h n
 passed_near (acts.Raised esr) i jump x at high h near = turned_near x at high h near
 passed_near (acts.Stopped cause) i jump x at high h near = h
 
-near_now : (t : Clocked) (start refill busy : ℕ) → IsTimed t start refill busy → IsNear t.past (t.ticks + 30)
-near_now t start refill busy h = record {
-  registers = h.registers;
-  first = omega (arith, h.first, h.slack);
-  redirect = omega (arith, h.redirect, h.slack);
-  next = omega (arith, h.next, h.slack);
-  ready = λ r. let le = h.ready r in omega (arith, le, h.slack);
+pub moves_timed : (here : Option Here) (done : Done) (pc : ℕ) (t : Clocked) → IsTimed t → IsTimed (moved here done pc t)
+moves_timed here done pc t h = record {
+  slack = omega arith;
+  fewer = omega (arith, h.fewer);
+  near = near_more _ (t.ticks + 30) (t.ticks + 1 + 30) (passed_near done.act (instr_of here) (jump_of done pc) t.past t.ticks (t.ticks + 30) h.near (omega arith)) (omega arith);
+  extra = h.extra;
+  covered = omega (arith, h.covered, h.slack);
 }
 
-pub moves_near : (here : Option Here) (done : Done) (pc : ℕ) (t : Clocked) (start refill busy : ℕ) → IsTimed t start refill busy
-    → (x : Past) → x ≡ (moved here done pc t).past → (x.first ≤ t.ticks + 30) × (x.redirect ≤ t.ticks + 30) × (x.next ≤ t.ticks + 30)
-moves_near here done pc t start refill busy h x is =
-    let n = passed_near done.act (instr_of here) (jump_of done pc) t.past t.ticks (t.ticks + 30) (near_now t start refill busy h) (omega arith) in
-    rw is (n.first, n.redirect, n.next)
+pub goes_timed : (i : Instr) (flow : Flow) (pc : ℕ) (t : Clocked) → IsTimed t → IsTimed (went i flow pc t)
+goes_timed i flow pc t h = record {
+  slack = omega arith;
+  fewer = omega (arith, h.fewer);
+  near = near_more _ (t.ticks + 30) (t.ticks + 1 + 30) (retired_near (Some i) (jump_by flow pc) t.past t.ticks (t.ticks + 30) h.near (omega arith)) (omega arith);
+  extra = h.extra;
+  covered = omega (arith, h.covered, h.slack);
+}
 
-pub moves_timed : (here : Option Here) (done : Done) (pc : ℕ) (t : Clocked) (start refill busy : ℕ) → IsTimed t start refill busy
-    → IsTimed (moved here done pc t) ((moved here done pc t).past.first - (t.ticks + 1)) ((moved here done pc t).past.redirect - (t.ticks + 1)) ((moved here done pc t).past.next - (t.ticks + 1))
-moves_timed here done pc t start refill busy h =
-    let n = passed_near done.act (instr_of here) (jump_of done pc) t.past t.ticks (t.ticks + 30) (near_now t start refill busy h) (omega arith) in
-    record {
-      start = refl;
-      refill = refl;
-      busy = refl;
-      slack = omega arith;
-      fewer = omega (arith, h.fewer);
-      registers = n.registers;
-      first = let le = n.first in omega (arith, le);
-      redirect = let le = n.redirect in omega (arith, le);
-      next = let le = n.next in omega (arith, le);
-      ready = λ r. let le = n.ready r in omega (arith, le);
-    }
+-- the stages begin to hold an instruction back
+used_near : (reads : Bool) (n high : ℕ) → n ≤ high → used reads n ≤ high
+used_near true n high le = le
+used_near false n high le = omega (arith, le)
+
+read_near : (i : Option Instr) (f : ℕ → ℕ) (high : ℕ) → ((r : ℕ) → f r ≤ high) → greatest_read i f ≤ high
+read_near None f high all = omega arith
+read_near (Some i) f high all =
+    let a = used_near (reads_a i) (f i.ra) high (all i.ra) in
+    let b = used_near (reads_b i) (f i.rb) high (all i.rb) in
+    let d = used_near (reads_d i) (f i.rd) high (all i.rd) in
+    omega (arith, a, b, d)
+
+slot_near : (in_slot : Bool) (n high : ℕ) → n ≤ high → (if in_slot then 0 else n) ≤ high
+slot_near true n high le = omega (arith, le)
+slot_near false n high le = le
+
+begins_near : (x : Past) (i : Option Instr) (in_slot : Bool) (high : ℕ) → IsNear x high → begins_at x i in_slot ≤ high
+unfolding operands_at
+begins_near x i in_slot high h =
+    let read = read_near i (λ r. slice_index x.ready r) high h.ready in
+    let slot = slot_near in_slot x.redirect high h.redirect in
+    omega (arith, read, slot, h.first, h.next)
+
+pub set_timed : (i : Option Instr) (in_slot : Bool) (t : Clocked) → IsTimed t → t.slack ≡ 63 → IsTimed (set i in_slot t)
+set_timed i in_slot t h full =
+    let begins = begins_near t.past i in_slot (t.ticks + 30) h.near in
+    let few = few_extra t.past.pipe i in
+    record { slack = h.slack; fewer = h.fewer; near = h.near; extra = few; covered = omega (arith, begins, few, full) }

@@ -4,3 +4,4 @@ pub mod ClockLemmas
 pub mod StagedTurns
 pub mod Turns
 pub mod Depths
+pub mod AloneTurns

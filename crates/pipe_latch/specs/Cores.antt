@@ -5,4 +5,4 @@ use Rattle.pipe_latch.specs.Staged.{staged}
 use Rattle.pipe_latch.specs.declared.staged.StagedCore.{StagedCore}
 
 abbrev pub staged_state : {STAGES : ℕ} → StagedCore STAGES → CoreState
-staged_state c = staged c.arch c.memory c.flights.items.items c.clock
+staged_state c = staged c.arch c.file c.memory c.flights.items.items c.clock

@@ -1,16 +1,18 @@
-//! The time of a pipelined core: how far its stages are, and its past.
+//! The time of a core with stages: how far they are, and its past.
 
-ghost use Rattle.std.specs.Prelude.{◌≡◌, ℕ, ◌<◌, ◌≤◌, ◌^◌, ◌+◌, ◌-◌, IfSome, nat_lt, slice_index, true};
+ghost use Rattle.std.specs.Prelude.{◌≡◌, ℕ, ◌<◌, ◌≤◌, ◌^◌, ◌+◌, ◌-◌, ◌||◌, IfSome, min, nat_lt, slice_index, true};
 ghost use Rattle.std.specs.Option.{option_copied};
 ghost use Rattle.mb_decode.specs.Meaning.{NamesRegisters};
-ghost use Rattle.timing_law.specs.Past.{begins_at, due_at, fresh};
-ghost use Rattle.timing_law.specs.Table.{depth_of};
-ghost use Rattle.pipe_latch.specs.Clocks.{filled, moved, stayed, steps_at};
+ghost use Rattle.timing_law.specs.Past.{begins_at, fresh};
+ghost use Rattle.timing_law.specs.Table.{depth_of, extra_for, first_of};
+ghost use Rattle.pipe_latch.specs.Clocks.{filled, holds, is_store_kind, jump_by, loaded, moved, set, stayed, stepped, went};
 
 use isa_step::{Done, Here};
 use mb_decode::Instr;
+use op_table::Kind;
+use prepared_act::{Flow, Prepared};
 use std::marker::Model;
-use timing_law::{Past, Pipe, operands_at};
+use timing_law::{Jump, Past, Pipe, is_ahead, operands_at, operands_of};
 
 /// The most steps that the divider does.
 const STEPS: u8 = 33;
@@ -18,7 +20,7 @@ const STEPS: u8 = 33;
 /// The slack after an act: more than any instruction waits.
 const SLACK: u8 = 63;
 
-/// The stages of a pipelined core, in ticks to come, and its past.
+/// The stages of a core, in ticks to come, and its past. What they hold back is the instruction at pc.
 #[derive(Drop)]
 pub struct Clock {
     acts: u64,
@@ -26,30 +28,53 @@ pub struct Clock {
     slack: u8,
     /// In how many ticks the pipeline is full for the first time.
     start: u8,
-    /// In how many ticks the word at pc is fetched and decoded again after a flush.
+    /// In how many ticks the word at pc is fetched and decoded again after a flush. The word in the slot of a branch was
+    /// fetched with it.
     refill: u8,
     /// In how many ticks the stage of execution is free.
     busy: u8,
-    /// The steps that the divider did for the instruction at pc.
+    /// In how many ticks the last operand is ready.
+    operands: u8,
+    /// The steps that the divider did.
     steps: u8,
+    /// The steps that it takes.
+    extra: u8,
     /// When each register can be used, among what else is told of the past.
     past: Past,
 }
 
 impl Model for Clock {
-    ghost use Rattle.pipe_latch.specs.Clocks.{Clocked, IsTimed};
+    ghost use Rattle.pipe_latch.specs.Clocks.{Clocked, IsTimed, wait_of};
 
     ghost Value = { Clocked };
 
-    ghost view = { λ c. record { acts = c.acts; ticks = c.ticks; slack = c.slack; steps = c.steps; past = c.past } };
+    ghost view = { λ c. record { acts = c.acts; ticks = c.ticks; slack = c.slack; wait = wait_of c.start c.refill c.busy c.operands; steps = c.steps; extra = c.extra; past = c.past } };
 
-    ghost invariant = { λ c. IsTimed (record { acts = c.acts; ticks = c.ticks; slack = c.slack; steps = c.steps; past = c.past }) c.start c.refill c.busy };
+    ghost invariant = { λ c. IsTimed (record { acts = c.acts; ticks = c.ticks; slack = c.slack; wait = wait_of c.start c.refill c.busy c.operands; steps = c.steps; extra = c.extra; past = c.past }) };
+}
+
+fn is_store(kind: Kind) -> bool
+    ensures { result ≡ is_store_kind kind }
+{
+    matches!(kind, Kind::Store(_))
+}
+
+/// Where an instruction that retired leads, by the pc after it.
+#[inline(always)]
+fn jump_by(flow: Flow, pc: u32) -> Jump
+    ensures { result ≡ jump_by flow pc }
+{
+    match flow {
+        Flow::On => Jump::On,
+        Flow::Jumped => Jump::Taken,
+        Flow::Stored(addr) => if is_ahead(addr, pc) { Jump::Struck } else { Jump::On },
+    }
 }
 
 impl Clock {
-    /// The time of a core before its first tick.
+    /// The time of a core before its first tick, which has no instruction to hold back yet.
     pub fn new(pipe: Pipe) -> Clock
-        ensures { result ≡ record { acts = 0; ticks = 0; slack = 63; steps = 0; past = fresh pipe } }
+        ensures { result ≡ record { acts = 0; ticks = 0; slack = 63; wait = first_of pipe; steps = 0; extra = 0; past = fresh pipe } }
     {
         Clock {
             acts: 0,
@@ -58,7 +83,9 @@ impl Clock {
             start: pipe.first(),
             refill: 0,
             busy: 0,
+            operands: 0,
             steps: 0,
+            extra: 0,
             past: Past::new(pipe),
         }
     }
@@ -108,67 +135,58 @@ impl Clock {
         self.past.ready[reg as usize].saturating_sub(self.ticks) as u8
     }
 
-    /// Whether a stage before the divider holds an instruction back: the pipeline fills for the first time or again,
+    /// Whether a stage before the divider holds the instruction at pc back: the pipeline fills for the first time or again,
     /// execution is busy, or an operand is not ready.
-    fn waits(&self, i: Option<&Instr>, in_slot: bool) -> bool
-        requires { IfSome (option_copied i) NamesRegisters }
-        ensures { result ≡ nat_lt self.now.ticks (begins_at self.now.past (option_copied i.entry) in_slot) }
+    #[inline(always)]
+    fn waits(&self) -> bool
+        ensures { result ≡ nat_lt 0 self.now.wait }
     {
-        let refills = !in_slot && self.refill > 0;
-        let operands = operands_at(i, &self.past.ready);
-        self.start > 0 || refills || self.busy > 0 || self.ticks < operands
+        self.start > 0 || self.refill > 0 || self.busy > 0 || self.operands > 0
     }
 
-    /// Whether the tick comes before the one in which an instruction is due.
-    pub fn is_early(&self, i: Option<&Instr>, in_slot: bool) -> bool
-        requires names { IfSome (option_copied i) NamesRegisters }
-        requires steps { self.now.steps ≡ steps_at self.now.past self.now.ticks (option_copied i) in_slot }
-        ensures { result ≡ nat_lt self.now.ticks (due_at self.now.past (option_copied i.entry) in_slot) }
+    /// Whether the instruction at pc is held back.
+    #[inline(always)]
+    pub fn holds(&self) -> bool
+        ensures { result ≡ holds self.now }
     {
-        self.waits(i, in_slot) || u64::from(self.steps) < self.past.extra(i)
+        self.waits() || self.steps < self.extra
     }
 
     /// The divider does a step, unless a stage before it holds the instruction back.
-    fn stepped(&self, i: Option<&Instr>, in_slot: bool) -> u8
-        requires names { IfSome (option_copied i) NamesRegisters }
-        requires steps { self.now.steps ≡ steps_at self.now.past self.now.ticks (option_copied i) in_slot }
-        ensures { result ≡ steps_at self.now.past (self.now.ticks + 1) (option_copied i.entry) in_slot }
+    #[inline(always)]
+    fn stepped(&self) -> u8
+        ensures { result ≡ stepped self.now }
     {
-        if !self.waits(i, in_slot) && self.steps < STEPS {
-            self.steps + 1
-        } else {
+        if self.waits() {
             self.steps
+        } else {
+            (self.steps.saturating_add(1)).min(STEPS)
         }
     }
 
     /// Passes a tick in which nothing was due.
-    pub fn stay(&mut self, i: Option<&Instr>, in_slot: bool)
-        requires names { IfSome (option_copied i) NamesRegisters }
+    #[inline(always)]
+    pub fn stay(&mut self)
         requires young { self.old.ticks < 2 ^ 62 }
-        requires steps { self.old.steps ≡ steps_at self.old.past self.old.ticks (option_copied i) in_slot }
-        ensures { self.new ≡ stayed (option_copied i.entry) in_slot self.old }
+        ensures { self.new ≡ stayed self.old }
     {
-        self.steps = self.stepped(i, in_slot);
+        self.steps = self.stepped();
         self.start = self.start.saturating_sub(1);
         self.refill = self.refill.saturating_sub(1);
         self.busy = self.busy.saturating_sub(1);
+        self.operands = self.operands.saturating_sub(1);
         self.ticks += 1;
     }
 
-    /// Passes a tick before the one in which an instruction is due.
-    pub fn fill(&mut self, i: Option<&Instr>, in_slot: bool)
-        requires names { IfSome (option_copied i) NamesRegisters }
+    /// Passes a tick in which the instruction at pc is held back.
+    #[inline(always)]
+    pub fn fill(&mut self)
         requires young { self.old.ticks < 2 ^ 62 }
-        requires steps { self.old.steps ≡ steps_at self.old.past self.old.ticks (option_copied i) in_slot }
-        requires early { nat_lt self.old.ticks (due_at self.old.past (option_copied i) in_slot) ≡ true }
-        ensures times { self.new ≡ filled (option_copied i.entry) in_slot self.old }
+        requires holds { holds self.old ≡ true }
+        ensures times { self.new ≡ filled self.old }
         ensures less { 0 < self.old.slack }
     {
-        self.steps = self.stepped(i, in_slot);
-        self.start = self.start.saturating_sub(1);
-        self.refill = self.refill.saturating_sub(1);
-        self.busy = self.busy.saturating_sub(1);
-        self.ticks += 1;
+        self.stay();
         self.slack -= 1;
     }
 
@@ -182,17 +200,59 @@ impl Clock {
         self.acts += 1;
         self.ticks += 1;
         self.slack = SLACK;
-        self.start = self.past.first.saturating_sub(self.ticks) as u8;
-        self.refill = self.past.redirect.saturating_sub(self.ticks) as u8;
-        self.busy = self.past.next.saturating_sub(self.ticks) as u8;
     }
 
-    /// The divider begins with the instruction at pc.
-    pub fn restart(&mut self, i: Option<&Instr>, in_slot: bool)
-        requires { IfSome (option_copied i) NamesRegisters }
-        ensures { self.new ≡ record self.old { steps = steps_at self.old.past self.old.ticks (option_copied i.entry) in_slot } }
+    /// Passes a tick with an instruction that retired, by where it leads and the pc after it.
+    #[inline(always)]
+    pub fn retire(&mut self, word: &Prepared, flow: Flow, pc: u32)
+        requires young { self.old.ticks < 2 ^ 62 }
+        ensures { self.new ≡ went word.now.instr flow pc self.old }
     {
-        let begins = self.past.begins(i, in_slot);
+        self.past
+            .retired_as(&word.instr, word.kind, word.latency, self.ticks, jump_by(flow, pc));
+        self.acts += 1;
+        self.ticks += 1;
+        self.slack = SLACK;
+    }
+
+    /// The stages begin to hold back the instruction at pc, after an act.
+    #[inline(always)]
+    pub fn begin(&mut self, i: Option<&Instr>, in_slot: bool)
+        requires names { IfSome (option_copied i) NamesRegisters }
+        requires slack { self.old.slack ≡ 63 }
+        ensures { self.new ≡ set (option_copied i.entry) in_slot self.old }
+    {
+        let operands = operands_at(i, &self.past.ready);
+        let extra = self.past.extra(i) as u8;
+        self.load(operands, extra, in_slot);
+    }
+
+    /// The same of an inner instruction, which is no divide.
+    #[inline(always)]
+    pub fn begin_inner(&mut self, word: &Prepared, in_slot: bool)
+        requires inner { word.now.is_inner ≡ true }
+        requires slack { self.old.slack ≡ 63 }
+        ensures { self.new ≡ set (Some word.now.instr) in_slot self.old }
+    {
+        let operands = operands_of(&word.instr, is_store(word.kind), &self.past.ready);
+        self.load(operands, 0, in_slot);
+    }
+
+    /// Loads the counters for an instruction whose operands are ready in a tick, and which takes so many steps of the divider.
+    #[inline(always)]
+    fn load(&mut self, operands: u64, extra: u8, in_slot: bool)
+        requires near { operands ≤ self.old.ticks + 30 }
+        requires extra { extra ≤ 33 }
+        requires slack { self.old.slack ≡ 63 }
+        ensures { self.new ≡ loaded operands extra in_slot self.old }
+    {
+        let redirect = if in_slot { 0 } else { self.past.redirect };
+        let begins = self.past.first.max(redirect).max(self.past.next).max(operands);
+        self.start = self.past.first.saturating_sub(self.ticks) as u8;
+        self.refill = redirect.saturating_sub(self.ticks) as u8;
+        self.busy = self.past.next.saturating_sub(self.ticks) as u8;
+        self.operands = operands.saturating_sub(self.ticks) as u8;
+        self.extra = extra;
         self.steps = self.ticks.saturating_sub(begins).min(u64::from(STEPS)) as u8;
     }
 }

@@ -14,7 +14,8 @@ ghost use Rattle.pipe_latch.specs.Latches.{AreWords, holds_at};
 use arrayvec::ArrayVec;
 use byte_mem::Memory;
 use core_regs::{Arch, Order, Size};
-use isa_step::{Done, Here, Store, here_at, met};
+use isa_step::{Done, Store};
+use prepared_act::Flow;
 
 /// A word that was fetched, and its address.
 #[derive(Clone, Copy, Debug, Default, PartialEq, Eq)]
@@ -22,6 +23,9 @@ pub struct Fetched {
     pub addr: u32,
     pub word: u32,
 }
+
+/// How many words are fetched ahead: as many as the stages before execution hold.
+const AHEAD: usize = 3;
 
 /// Words that were fetched, the oldest first.
 #[derive(Drop)]
@@ -40,15 +44,6 @@ impl Queue {
             items: ArrayVec::new(),
             order,
         }
-    }
-
-    fn kept(&self, addr: u32) -> Option<Fetched>
-        ensures { result ≡ find (λ f. f.addr == addr) self.now.items.items }
-    {
-        self.items
-            .iter()
-            .copied()
-            .find(|fetched| fetched.addr == addr)
     }
 
     /// The address of the next word to fetch.
@@ -93,26 +88,25 @@ impl Queue {
         requires words { AreWords m.now self.now.order self.now.items.items }
         ensures { result ≡ loaded m.now Word self.now.order addr }
     {
-        match self.kept(addr) {
-            Some(fetched) => Some(fetched.word),
-            None => m.read(addr, Size::Word, self.order).ok(),
+        match self.items.first() {
+            Some(first) if first.addr == addr => Some(first.word),
+            _ => m.read(addr, Size::Word, self.order).ok(),
         }
     }
 
-    /// The word at pc, decoded.
-    #[tactic(auto, unfolding(isa_step::specs::Due::here_at))]
-    pub fn decode(&self, a: &Arch, m: &Memory) -> Option<Here>
+    /// The word at pc, by the words that were fetched or else by memory.
+    #[inline(always)]
+    pub fn word_at_pc(&self, a: &Arch, m: &Memory) -> Option<u32>
         requires words { AreWords m.now self.now.order self.now.items.items }
-        ensures here { result ≡ here_at (bare a.now) m.now }
-        ensures registers { IfSome result (λ here. IfSome here.instr NamesRegisters) }
+        ensures { met result ≡ here_at (bare a.now) m.now }
     {
         if a.pc % 4 != 0 {
             return None;
         }
         if a.order != self.order {
-            return here_at(a, m);
+            return m.read(a.pc, Size::Word, a.order).ok();
         }
-        met(self.word_at(m, a.pc))
+        self.word_at(m, a.pc)
     }
 
     /// Fetches the word after the last, or the one at pc.
@@ -121,7 +115,7 @@ impl Queue {
         ensures words { AreWords m.now self.old.order self.old.items.items → AreWords m.now self.new.order self.new.items.items }
     {
         let addr = self.next_addr(pc);
-        if self.items.is_full() || addr % 4 != 0 {
+        if self.items.len() >= AHEAD || addr % 4 != 0 {
             return;
         }
         if let Ok(word) = m.read(addr, Size::Word, self.order) {
@@ -141,30 +135,32 @@ impl Queue {
         }
     }
 
-    /// What a store leaves of the fetched words.
-    fn after_store(&mut self, store: &Store)
+    /// What a store to an address leaves of the fetched words.
+    fn after_store(&mut self, addr: u32)
         ensures order { self.new.order ≡ self.old.order }
-        ensures words { (m : List ℕ) (order : Order) → AreWords m self.old.order self.old.items.items → AreWords (stored m store.now.size order store.now.addr store.now.word) self.new.order self.new.items.items }
+        ensures words { (m : List ℕ) (order : Order) (store : Store) → addr ≡ store.addr → AreWords m self.old.order self.old.items.items → AreWords (stored m store.size order store.addr store.word) self.new.order self.new.items.items }
     {
-        if self.touched(store.addr) {
+        if self.touched(addr) {
             self.flush();
         }
     }
 
     /// Goes on after an act at pc. Where the next word isn't the one after it, all words go; and so they do at a store
     /// into one of them.
-    pub fn follow(&mut self, done: &Done, pc: u32, next: u32)
+    #[inline(always)]
+    pub fn follow(&mut self, flow: Flow, pc: u32, next: u32)
         ensures order { self.new.order ≡ self.old.order }
-        ensures words { (m : List ℕ) (order : Order) → AreWords m self.old.order self.old.items.items → AreWords (after_store order done.now.store m) self.new.order self.new.items.items }
+        ensures words { (m : List ℕ) (order : Order) (done : Done) → flow ≡ flow_of done → AreWords m self.old.order self.old.items.items → AreWords (after_store order done.store m) self.new.order self.new.items.items }
     {
         if next != pc.wrapping_add(4) {
             self.flush();
             return;
         }
         self.leave(pc);
-        match &done.store {
-            Some(store) => self.after_store(store),
-            None => {}
+        match flow {
+            Flow::On => {}
+            Flow::Jumped => self.flush(),
+            Flow::Stored(addr) => self.after_store(addr),
         }
     }
 }

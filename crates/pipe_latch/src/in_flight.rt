@@ -22,22 +22,6 @@ pub struct Flights {
     pub items: ArrayVec<Flight, 8>,
 }
 
-/// A result grows older: it is written to the register file, or flies on.
-fn pass_tick(flight: Flight, depth: u8, file: &mut [u32; 32], later: &mut Flights)
-    requires flight { (flight.reg < 32) × (flight.age < 7) }
-    requires room { array_vec_len later.old.items < 8 }
-    ensures later { later.new.items.items ≡ later.old.items.items ++ filter (still_flies depth) (older flight ∷ []) }
-    ensures file { file.new ≡ applied (filter (has_landed depth) (older flight ∷ [])) file.old }
-    ensures room { array_vec_len later.new.items ≤ array_vec_len later.old.items + 1 }
-{
-    let age = flight.age + 1;
-    if age == depth {
-        file[flight.reg as usize] = flight.value;
-    } else {
-        later.items.push(Flight { age, ..flight });
-    }
-}
-
 impl Flights {
     /// No result is in flight.
     pub fn new() -> Flights
@@ -95,8 +79,35 @@ impl Flights {
         }
     }
 
-    /// Each result grows older, and those that reach the depth are written to the register file.
-    #[tactic(auto, using(crate::proofs::FlightLemmas::flights_none, crate::proofs::FlightLemmas::file_none))]
+    /// The oldest result lands in the register file, if the coming tick brings it to the depth.
+    #[inline(always)]
+    fn land(&mut self, depth: u8, file: &mut [u32; 32])
+        requires depth { (1 ≤ depth) × (depth ≤ 7) }
+        requires ages { InFlight 0 depth self.old.items.items }
+        ensures flights { self.new.items.items ≡ left_flying depth self.old.items.items }
+        ensures file { file.new ≡ landed depth self.old.items.items file.old }
+    {
+        if let Some(first) = self.items.first()
+            && first.age + 1 == depth
+        {
+            file[first.reg as usize] = first.value;
+            self.items.remove(0);
+        }
+    }
+
+    /// Each result grows older.
+    #[inline(always)]
+    fn grow_older(&mut self)
+        requires { All (λ f. f.age < 7) self.old.items.items }
+        ensures { self.new.items.items ≡ map older self.old.items.items }
+    {
+        for flight in self.items.iter_mut() {
+            flight.age += 1;
+        }
+    }
+
+    /// Each result grows older, and one that reaches the depth is written to the register file.
+    #[inline(always)]
     pub fn advance(&mut self, depth: u8, file: &mut [u32; 32])
         requires depth { (1 ≤ depth) × (depth ≤ 7) }
         requires ages { InFlight 0 depth self.old.items.items }
@@ -105,11 +116,8 @@ impl Flights {
         ensures ages { InFlight 1 depth self.new.items.items }
         ensures room { array_vec_len self.new.items < 8 }
     {
-        let mut later = Flights::new();
-        for flight in self.items.iter() {
-            pass_tick(*flight, depth, file, &mut later);
-        }
-        self.items = later.items;
+        self.land(depth, file);
+        self.grow_older();
     }
 
     /// A result begins its flight.
