@@ -1,9 +1,9 @@
 //! The numbers of a core's past.
 
-ghost use Rattle.std.specs.Prelude.{◌≡◌, ◌<◌, ◌≤◌, ◌^◌, IfSome};
+ghost use Rattle.std.specs.Prelude.{◌≡◌, ◌<◌, ◌≤◌, ◌^◌, IfSome, Some};
 ghost use Rattle.std.specs.Option.{option_copied};
 ghost use Rattle.isa_step.specs.Wants.{late_at, latency_of};
-ghost use Rattle.op_table.specs.Table.{kind_of};
+ghost use Rattle.op_table.specs.Table.{is_store, kind_of};
 ghost use Rattle.mb_decode.specs.Meaning.{NamesRegisters};
 ghost use Rattle.timing_law.specs.Past.{begins_at, due_at, fresh, marked, operands_at, retired, turned, used};
 ghost use Rattle.timing_law.specs.Table.{extra_for, late_of};
@@ -34,17 +34,17 @@ fn used(reads: bool, number: u64) -> u64
     if reads { number } else { 0 }
 }
 
-/// The tick from which an instruction can use each register that it reads, by whether it is a store.
+/// The tick from which an instruction can use each register that it reads, by whether it stores.
 #[tactic(auto, unfolding(crate::specs::Past::operands_at))]
 #[inline(always)]
-pub fn operands_of(i: &Instr, is_store: bool, ready: &[u64; 32]) -> u64
+pub fn operands_of(i: &Instr, stores: bool, ready: &[u64; 32]) -> u64
     requires names { NamesRegisters i.now }
-    requires store { is_store ≡ is_store i.now.op }
+    requires store { stores ≡ is_store i.now.op }
     ensures { result ≡ operands_at (Some i.now) ready.now }
 {
     used(i.ra != 0, ready[i.ra as usize])
         .max(used(i.rb != 0, ready[i.rb as usize]))
-        .max(used(i.rd != 0 && is_store, ready[i.rd as usize]))
+        .max(used(i.rd != 0 && stores, ready[i.rd as usize]))
 }
 
 /// The tick from which an instruction can use each register that it reads.
