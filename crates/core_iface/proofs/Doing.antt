@@ -7,6 +7,7 @@ use Rattle.core_regs.specs.declared.causes.Take.{Take}
 use Rattle.core_regs.specs.State.{bare}
 use Rattle.axi_link.specs.declared.item.Item.{Item}
 use Rattle.isa_step.specs.declared.acts.Here.{Here}
+use Rattle.isa_step.specs.declared.acts.Idle.TheVariants.{Ended}
 use Rattle.isa_step.specs.declared.acts.Operands.{Operands}
 use Rattle.isa_step.specs.Shown.{Shown}
 use Rattle.isa_step.specs.Deeds.{Deed, Due, Does, Waits, Sleeps, Ends, Stops, Want, Goes, Homes, Gets, Puts, Reads, Writes}
@@ -34,7 +35,7 @@ room_does port room full true e = tt
 room_does port room (Some d) false e = tt
 room_does port room None false e = cc
 
-home_does : (d : Deed) (b : Bool) → (if b then Some _ else None) ≡ None → IsDeed (if b then Ends else Does d)
+home_does : (d : Deed) (b : Bool) → (if b then Some Ended else None) ≡ None → IsDeed (if b then Ends else Does d)
 home_does d true e = cc
 home_does d false e = tt
 
