@@ -1,5 +1,5 @@
 -- The ticks of a core with stages that are done at once.
-use Rattle.std.proofs.Common.{ℕ, ◌≡◌, ◌<◌, ◌+◌, ◌==◌, ◌++◌, Bool, true, false, List, Option, Some, None, refl, sym, ap, ◌∙◌, subst, arith, length, if◌then◌else◌}
+use Rattle.std.proofs.Common.{ℕ, ◌≡◌, ◌<◌, ◌+◌, ◌-◌, ◌==◌, ◌++◌, Bool, true, false, List, Option, Some, None, refl, sym, ap, ◌∙◌, subst, arith, length, if◌then◌else◌}
 use Rattle.std.specs.Prelude.{is_some}
 use Rattle.core_regs.specs.declared.registers.Arch.{Arch}
 use Rattle.core_regs.specs.State.{bare, reg, write_of, written}
@@ -32,6 +32,7 @@ use Rattle.core_iface.specs.Words.{IsAt, IsKept, goes_on}
 use Rattle.core_iface.proofs.Doing.{fills_alone}
 use Rattle.pipe_latch.specs.Clocks.{Clocked, IsSet, filled, holds, jump_by, set, stayed, went}
 use Rattle.pipe_latch.specs.Staged.{staged}
+use Rattle.pipe_latch.proofs.Leaving.{known}
 use Rattle.pipe_latch.proofs.StagedTurns.{Ages, holds_early, staged_ticked}
 
 -- a tick passes before the act that is due
@@ -97,9 +98,6 @@ alone_of Sleeps w flow a b m n fl fs gs file later d t h ages begin meant = absu
 alone_of Ends w flow a b m n fl fs gs file later d t h ages begin meant = absurd h
 alone_of (Stops cause) w flow a b m n fl fs gs file later d t h ages begin meant = absurd h
 
-met_of : (w : Prepared) (i : Option Instr) → i ≡ Some w.instr → record { word = w.word; instr = i } ≡ record { word = w.word; instr = Some w.instr }
-met_of w i is = ap (λ (x : Option Instr). record { word = w.word; instr = x }) is
-
 pub staged_acts_alone : (w : Prepared) (flow : Flow) (a b : Arch) (m n : List ℕ) (fl fs gs : List Flight) (file later : List ℕ) (d : ℕ) (i : Option Instr) (in_slot : Bool) (t u v : Clocked)
     → IsAt w a m → Retires (met (Some w.word)) a m flow b n → length a.regs ≡ 32
     → Ages file later fl fs d t → IsSet t (instr_of (here_at (bare a) m)) (is_some a.slot) → holds t ≡ false
@@ -107,13 +105,13 @@ pub staged_acts_alone : (w : Prepared) (flow : Flow) (a b : Arch) (m n : List �
     → ticks.TicksAlone (staged a file m fl t) (staged b later n gs v)
 staged_acts_alone w flow a b m n fl fs gs file later d i in_slot t u v at h long ages is_set held begin goes sets =
     let inner = w.inner at.suits.inner in
-    let known : met (Some w.word) ≡ Some (record { word = w.word; instr = Some w.instr }) = ap Some (met_of w _ inner.meant) in
-    let here : here_at (bare a) m ≡ Some (record { word = w.word; instr = Some w.instr }) = at.here ∙ known in
+    let means = known w a at.suits in
+    let here : here_at (bare a) m ≡ Some (record { word = w.word; instr = Some w.instr }) = at.here ∙ means in
     subst (λ (x : Clocked). ticks.TicksAlone (staged a file m fl t) (staged b later n gs x)) (sym (sets ∙ ap (set i in_slot) goes))
     (record {
       does = λ s calm.
           let due_here : Option Here → Due = λ x. due_with x (operands_of x a.regs) (bare a) m s in
-          let done : RetiresDue (due_here (Some (record { word = w.word; instr = Some w.instr }))) flow (view_of a m) (view_of b n) = subst (λ (x : Option Here). RetiresDue (due_here x) flow (view_of a m) (view_of b n)) known (h.does s calm) in
+          let done : RetiresDue (due_here (Some (record { word = w.word; instr = Some w.instr }))) flow (view_of a m) (view_of b n) = subst (λ (x : Option Here). RetiresDue (due_here x) flow (view_of a m) (view_of b n)) means (h.does s calm) in
           let wrote : (deed : Deed) → due_here (here_at (bare a) m) ≡ Does deed → gs ≡ fs ++ begun deed.done.write = λ deed is.
               begin ∙ ap (λ x. fs ++ begun x) (sym (inner_writes w.instr w.word a b m n flow s deed w.result inner calm done (sym (ap due_here here) ∙ is)
               (w.result_met ∙ ap (λ k. result_register k w.instr.rd) w.kind_met) (subst (λ k. w.result < k) (sym long) w.result_named))) in

@@ -1,5 +1,5 @@
 -- The counters of the stages tell exactly when an instruction is due.
-use Rattle.std.proofs.Common.{ℕ, ◌≡◌, ◌<◌, ◌≤◌, ◌+◌, ◌-◌, ◌==◌, ◌&&◌, ◌||◌, not, nat_lt, min, max, Bool, true, false, List, Option, Some, None, refl, sym, ap, ◌∙◌, arith, length, slice_index, slice_set, if◌then◌else◌, replicate}
+use Rattle.std.proofs.Common.{ℕ, ◌≡◌, ◌<◌, ◌≤◌, ◌+◌, ◌-◌, ◌==◌, ◌&&◌, ◌||◌, not, nat_lt, min, max, Bool, true, false, List, Option, Some, None, refl, sym, ap, subst, ◌∙◌, arith, length, slice_index, slice_set, if◌then◌else◌, replicate}
 use Rattle.std.proofs.lemmas.List.{length-set, get_or-set_same, get_or-set_other, get_or_past, get_or-replicate, length-replicate}
 use Rattle.mb_decode.specs.declared.instruction.Instr.{Instr}
 use Rattle.mb_decode.specs.Registers.{reads_a, reads_b, reads_d}
@@ -16,18 +16,22 @@ use Rattle.timing_law.specs.declared.pipe.Pipe.TheVariants.{Plain, Three, Five, 
 use Rattle.timing_law.specs.declared.pipe.Jump.{Jump}
 use Rattle.timing_law.specs.declared.pipe.Jump.TheVariants.{On, Taken, Struck}
 use Rattle.timing_law.specs.declared.past.Past.{Past}
-use Rattle.timing_law.specs.Table.{branch_of, divide_extra, extra_for, first_of, is_divide, is_memory, late_of, memory_hold, ready_of, redirected, turn_of}
-use Rattle.timing_law.specs.Past.{begins_at, due_at, fresh, greatest_read, marked, operands_at, used}
-use Rattle.timing_law.specs.Passing.{instr_of, jump_of, passed_by, retired_here}
-use Rattle.prepared_act.specs.declared.flow.Flow.{Flow}
-use Rattle.pipe_latch.specs.Clocks.{Clocked, IsNear, IsSet, IsTimed, filled, holds, jump_by, moved, set, stayed, wait_of, went}
+use Rattle.timing_law.specs.Table.{branch_of, divide_extra, extra_for, extra_of, first_of, is_divide, is_memory, late_of, memory_hold, ready_of, redirected, turn_of}
+use Rattle.timing_law.specs.Past.{begins_at, due_at, fresh, greatest_read, marked, operands_at, retired, used}
+use Rattle.timing_law.specs.Passing.{instr_of, jump_of, passed_by, past_after, retired_here}
+use Rattle.op_table.specs.declared.kinds.Kind.{Kind}
+use Rattle.op_table.specs.declared.kinds.Kind.TheVariants.{Divide}
+use Rattle.prepared_act.specs.declared.prepared.Prepared.{Prepared}
+use Rattle.prepared_act.specs.Prepared.{is_inner}
+use Rattle.pipe_latch.specs.Clocks.{Clocked, IsNear, IsSet, IsTimed, filled, holds, loaded, set, stayed, stepped, wait_of}
 
 -- the counters tell in how many ticks no stage holds the instruction back
 lt_zero : (a b : ℕ) → (nat_lt 0 a || nat_lt 0 b) ≡ nat_lt 0 (max a b)
 lt_zero a b = grind arith
 
 pub waits_so : (start refill busy operands : ℕ) → (nat_lt 0 start || nat_lt 0 refill || nat_lt 0 busy || nat_lt 0 operands) ≡ nat_lt 0 (wait_of start refill busy operands)
-waits_so start refill busy operands = ? 
+waits_so start refill busy operands =
+    ap (λ z. z || nat_lt 0 operands) (ap (λ z. z || nat_lt 0 busy) (lt_zero start refill) ∙ lt_zero (max start refill) busy) ∙ lt_zero (max (max start refill) busy) operands
 
 less_one : (a b : ℕ) → max (a - 1) (b - 1) ≡ max a b - 1
 less_one a b = omega arith
@@ -83,36 +87,32 @@ near_more x high more h le = record {
   ready = λ r. let here = h.ready r in omega (arith, here, le);
 }
 
-covers_by : (wait steps extra slack : ℕ) → wait + (extra - steps) ≤ slack → (wait - 1) + (extra - (if nat_lt 0 wait then steps else min 33 (steps + 1))) ≤ slack
-covers_by wait steps extra slack le = grind (arith, le)
+covers_by : (wait steps extra slack : ℕ) → extra ≤ 33 → wait + (extra - steps) ≤ slack → wait - 1 + (extra - (if nat_lt 0 wait then steps else min 33 (steps + 1))) ≤ slack
+covers_by wait steps extra slack few le = grind (arith, few, le)
 
-pub stays_timed : (t : Clocked) → IsTimed t → IsTimed (stayed t)
-stays_timed t h = record {
-  slack = h.slack;
+pub stays_covered : (t : Clocked) → IsTimed t → t.wait - 1 + (t.extra - stepped t) ≤ t.slack
+stays_covered t h = covers_by t.wait t.steps t.extra t.slack h.extra h.covered
+
+pub passes_timed : (t : Clocked) (slack wait steps : ℕ) → IsTimed t → slack < 64 → t.wait - 1 + (t.extra - stepped t) ≤ slack → wait ≡ t.wait - 1 → steps ≡ stepped t
+    → IsTimed (record t { ticks = t.ticks + 1; slack = slack; wait = wait; steps = steps })
+passes_timed t slack wait steps h below le waits is = record {
+  slack = below;
   fewer = omega (arith, h.fewer);
   near = near_more t.past (t.ticks + 30) (t.ticks + 1 + 30) h.near (omega arith);
   extra = h.extra;
-  covered = covers_by t.wait t.steps t.extra t.slack h.covered;
+  covered = rw (waits, is) le;
 }
 
 fewer_by : (wait steps extra slack : ℕ) → extra ≤ 33 → (nat_lt 0 wait || nat_lt steps extra) ≡ true → wait + (extra - steps) ≤ slack
-    → (0 < slack) × ((wait - 1) + (extra - (if nat_lt 0 wait then steps else min 33 (steps + 1))) ≤ slack - 1)
+    → (0 < slack) × (wait - 1 + (extra - (if nat_lt 0 wait then steps else min 33 (steps + 1))) ≤ slack - 1)
 fewer_by wait steps extra slack few holds le = (grind (arith, few, holds, le), grind (arith, few, holds, le))
 
 -- the slack covers the ticks before the next act
 pub has_slack : (t : Clocked) → IsTimed t → holds t ≡ true → 0 < t.slack
 has_slack t h held = (fewer_by t.wait t.steps t.extra t.slack h.extra held h.covered).0
 
-pub fills_timed : (t : Clocked) → IsTimed t → holds t ≡ true → IsTimed (filled t)
-fills_timed t h held =
-    let s = stays_timed t h in
-    record {
-      slack = omega (arith, h.slack);
-      fewer = s.fewer;
-      near = s.near;
-      extra = s.extra;
-      covered = (fewer_by t.wait t.steps t.extra t.slack h.extra held h.covered).1;
-    }
+pub fills_covered : (t : Clocked) → IsTimed t → holds t ≡ true → t.wait - 1 + (t.extra - stepped t) ≤ t.slack - 1
+fills_covered t h held = (fewer_by t.wait t.steps t.extra t.slack h.extra held h.covered).1
 
 -- a new core
 zero_at : (n r : ℕ) → slice_index (replicate n 0) r ≡ 0
@@ -124,7 +124,7 @@ few_first Three = omega arith
 few_first Five = omega arith
 few_first Eight = omega arith
 
-pub new_is_timed : (p : Pipe) → IsTimed (record { acts = 0; ticks = 0; slack = 63; wait = first_of p; steps = 0; extra = 0; past = fresh p })
+pub new_is_timed : (p : Pipe) → IsTimed (record { acts = 0; ticks = 0; slack = 63; wait = wait_of (first_of p) 0 0 0; steps = 0; extra = 0; past = fresh p })
 new_is_timed p =
     let few = few_first p in
     record {
@@ -209,23 +209,29 @@ passed_near (acts.Took take) i jump x at high h near = turned_near x at high h n
 passed_near (acts.Raised esr) i jump x at high h near = turned_near x at high h near
 passed_near (acts.Stopped cause) i jump x at high h near = h
 
-pub moves_timed : (here : Option Here) (done : Done) (pc : ℕ) (t : Clocked) → IsTimed t → IsTimed (moved here done pc t)
-moves_timed here done pc t h = record {
-  slack = omega arith;
-  fewer = omega (arith, h.fewer);
-  near = near_more _ (t.ticks + 30) (t.ticks + 1 + 30) (passed_near done.act (instr_of here) (jump_of done pc) t.past t.ticks (t.ticks + 30) h.near (omega arith)) (omega arith);
-  extra = h.extra;
-  covered = omega (arith, h.covered, h.slack);
-}
+pub moves_timed : (here : Option Here) (done : Done) (pc : ℕ) (t : Clocked) (past : Past) → past ≡ past_after here done pc t.ticks t.past → IsTimed t
+    → IsTimed (record t { acts = t.acts + 1; ticks = t.ticks + 1; slack = 63; past = past })
+moves_timed here done pc t past is h =
+    let near = passed_near done.act (instr_of here) (jump_of done pc) t.past t.ticks (t.ticks + 30) h.near (omega arith) in
+    record {
+      slack = omega arith;
+      fewer = omega (arith, h.fewer);
+      near = subst (λ (x : Past). IsNear x (t.ticks + 1 + 30)) (sym is) (near_more _ (t.ticks + 30) (t.ticks + 1 + 30) near (omega arith));
+      extra = h.extra;
+      covered = omega (arith, h.covered, h.slack);
+    }
 
-pub goes_timed : (i : Instr) (flow : Flow) (pc : ℕ) (t : Clocked) → IsTimed t → IsTimed (went i flow pc t)
-goes_timed i flow pc t h = record {
-  slack = omega arith;
-  fewer = omega (arith, h.fewer);
-  near = near_more _ (t.ticks + 30) (t.ticks + 1 + 30) (retired_near (Some i) (jump_by flow pc) t.past t.ticks (t.ticks + 30) h.near (omega arith)) (omega arith);
-  extra = h.extra;
-  covered = omega (arith, h.covered, h.slack);
-}
+pub goes_timed : (i : Instr) (jump : Jump) (t : Clocked) (past : Past) → past ≡ retired i t.ticks jump t.past → IsTimed t
+    → IsTimed (record t { acts = t.acts + 1; ticks = t.ticks + 1; slack = 63; past = past })
+goes_timed i jump t past is h =
+    let near = retired_near (Some i) jump t.past t.ticks (t.ticks + 30) h.near (omega arith) in
+    record {
+      slack = omega arith;
+      fewer = omega (arith, h.fewer);
+      near = subst (λ (x : Past). IsNear x (t.ticks + 1 + 30)) (sym is) (near_more _ (t.ticks + 30) (t.ticks + 1 + 30) near (omega arith));
+      extra = h.extra;
+      covered = omega (arith, h.covered, h.slack);
+    }
 
 -- the stages begin to hold an instruction back
 used_near : (reads : Bool) (n high : ℕ) → n ≤ high → used reads n ≤ high
@@ -256,3 +262,21 @@ set_timed i in_slot t h full =
     let begins = begins_near t.past i in_slot (t.ticks + 30) h.near in
     let few = few_extra t.past.pipe i in
     record { slack = h.slack; fewer = h.fewer; near = h.near; extra = few; covered = omega (arith, begins, few, full) }
+
+pub operands_near : (t u : Clocked) (i : Option Instr) (operands : ℕ) → operands ≡ operands_at i t.past.ready → IsTimed t → t ≡ u → operands ≤ u.ticks + 30
+unfolding operands_at
+operands_near t u i operands is h same =
+    let read = read_near i (λ r. slice_index t.past.ready r) (t.ticks + 30) h.near.ready in
+    subst (λ (x : Clocked). operands ≤ x.ticks + 30) same (omega (arith, is, read))
+
+-- an inner instruction is no divide
+no_extra : (p : Pipe) (kind : Kind) → is_inner kind ≡ true → extra_of p kind ≡ 0
+unfolding is_inner
+no_extra p (Divide signed) inner = cc
+no_extra p kind inner = refl
+
+pub inner_set : (w : Prepared) (in_slot : Bool) (operands : ℕ) (t u : Clocked) → u ≡ loaded operands 0 in_slot t → operands ≡ operands_at (Some w.instr) t.past.ready → w.is_inner ≡ true
+    → u ≡ set (Some w.instr) in_slot t
+inner_set w in_slot operands t u is read inner =
+    is ∙ ap (λ n. loaded n 0 in_slot t) read
+    ∙ ap (λ e. loaded (operands_at (Some w.instr) t.past.ready) e in_slot t) (sym (no_extra t.past.pipe (kind_of w.instr.op) (w.inner inner).kind))

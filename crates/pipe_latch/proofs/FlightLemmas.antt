@@ -1,37 +1,19 @@
 -- Results in flight: their ages, and the registers that they stand for.
-use Rattle.std.proofs.Common.{ℕ, zero, suc, ◌≡◌, ◌<◌, ◌≤◌, ◌+◌, ◌==◌, Bool, true, false, List, [], ◌∷◌, ◌++◌, Option, Some, None, refl, sym, subst, ap, ◌∙◌, arith, length, map, filter, take, reverse, get_or, slice_index, slice_set, cond}
-use Rattle.std.proofs.lemmas.List.{take_all, take_more, map-append, reverse-append, length-set, get_or-set_same, get_or-set_other}
-use Rattle.std.proofs.lemmas.List.Elements.{filter-append}
+use Rattle.std.proofs.Common.{ℕ, zero, suc, ◌≡◌, ◌<◌, ◌≤◌, ◌+◌, ◌-◌, ◌==◌, Bool, true, false, List, [], ◌∷◌, ◌++◌, Option, Some, None, refl, sym, subst, ap, ◌∙◌, arith, length, map, filter, take, drop, reverse, get_or, slice_index, slice_set, cond}
+use Rattle.std.proofs.lemmas.List.{reverse-append, length-set, get_or-set_same, get_or-set_other}
 use Rattle.std.proofs.lemmas.List.Folds.{find-append}
+use Rattle.std.specs.Prelude.{remove}
 use Rattle.std.specs.Option.{option_map, option_or}
 use Rattle.std.specs.List.{find}
 use Rattle.core_regs.specs.declared.registers.Write.{Write}
 use Rattle.core_regs.specs.State.{written}
 use Rattle.core_iface.specs.declared.Flight.{Flight}
 use Rattle.core_iface.specs.Flights.{applied, older, has_landed, still_flies, flights_aged, file_aged, begun}
-use Rattle.pipe_latch.specs.Latches.{InFlight, youngest}
+use Rattle.pipe_latch.specs.Latches.{InFlight, lands, youngest}
 
 pub applied_append : (xs ys : List Flight) (file : List ℕ) → applied (xs ++ ys) file ≡ applied ys (applied xs file)
 applied_append [] ys file = refl
 applied_append (x ∷ xs) ys file = applied_append xs ys (slice_set file x.reg x.value)
-
-pub flights_more : (d : ℕ) (fs : List Flight) (f : Flight) → flights_aged d (fs ++ f ∷ []) ≡ flights_aged d fs ++ filter (still_flies d) (older f ∷ [])
-unfolding flights_aged
-flights_more d fs f = rw (map-append older fs (f ∷ [])) (filter-append (still_flies d) (map older fs) (older f ∷ []))
-
-pub file_more : (d : ℕ) (fs : List Flight) (f : Flight) (file : List ℕ)
-    → file_aged d (fs ++ f ∷ []) file ≡ applied (filter (has_landed d) (older f ∷ [])) (file_aged d fs file)
-unfolding file_aged
-file_more d fs f file = rw (map-append older fs (f ∷ []), filter-append (has_landed d) (map older fs) (older f ∷ []))
-    (applied_append (filter (has_landed d) (map older fs)) (filter (has_landed d) (older f ∷ [])) file)
-
-pub flights_none : (d : ℕ) → flights_aged d [] ≡ []
-unfolding flights_aged
-flights_none d = refl
-
-pub file_none : (d : ℕ) (file : List ℕ) → file_aged d [] file ≡ file
-unfolding file_aged
-file_none d file = refl
 
 pub weaken : (low high more : ℕ) (fs : List Flight) → InFlight low high fs → high ≤ more → InFlight low more fs
 weaken low high more [] h le = omega (arith, h, le)
@@ -41,7 +23,7 @@ pub lower : (less low high : ℕ) (fs : List Flight) → InFlight low high fs �
 lower less low high [] h le = omega (arith, h, le)
 lower less low high (f ∷ fs) h le = (h.0, h.1, lower less low f.age fs h.2 le)
 
-pub in_flight_at : (low high : ℕ) (fs : List Flight) → InFlight low high fs → (k : ℕ) (blank : Flight) → k < length fs
+in_flight_at : (low high : ℕ) (fs : List Flight) → InFlight low high fs → (k : ℕ) (blank : Flight) → k < length fs
     → ((get_or fs k blank).reg < 32) × ((get_or fs k blank).age < high)
 in_flight_at low high [] h k blank lt = absurd (omega (arith, lt))
 in_flight_at low high (f ∷ fs) h zero blank lt = (h.0, h.1)
@@ -136,18 +118,72 @@ read_youngest fs file n v lt is = applied_at fs file n lt ∙ ap (λ o. or_file 
 pub read_file : (fs : List Flight) (file : List ℕ) (n : ℕ) → n < length file → youngest fs n ≡ None → slice_index (applied fs file) n ≡ slice_index file n
 read_file fs file n lt is = applied_at fs file n lt ∙ ap (λ o. or_file o (slice_index file n)) is
 
-pub later_step : (d k : ℕ) (fs old new : List Flight) (blank : Flight) → k < length fs → old ≡ flights_aged d (take k fs)
-    → new ≡ old ++ filter (still_flies d) (older (get_or fs k blank) ∷ []) → new ≡ flights_aged d (take (k + 1) fs)
-later_step d k fs old new blank lt was is = is ∙ ap (λ xs. xs ++ filter (still_flies d) (older (get_or fs k blank) ∷ [])) was
-    ∙ sym (ap (λ xs. flights_aged d xs) (take_more fs k blank lt) ∙ flights_more d (take k fs) (get_or fs k blank))
+-- the oldest lands, and all others grow older
+last_tick : (d age : ℕ) → (d - age == 1) ≡ true → age + 1 ≡ d
+last_tick d age is = grind (arith, is)
 
-pub file_step : (d k : ℕ) (fs : List Flight) (first old new : List ℕ) (blank : Flight) → k < length fs → old ≡ file_aged d (take k fs) first
-    → new ≡ applied (filter (has_landed d) (older (get_or fs k blank) ∷ [])) old → new ≡ file_aged d (take (k + 1) fs) first
-file_step d k fs first old new blank lt was is = is ∙ ap (λ xs. applied (filter (has_landed d) (older (get_or fs k blank) ∷ [])) xs) was
-    ∙ sym (ap (λ xs. file_aged d xs first) (take_more fs k blank lt) ∙ file_more d (take k fs) (get_or fs k blank) first)
+fly_on : (d : ℕ) (f : Flight) (fs : List Flight) → (d - f.age == 1) ≡ true → InFlight 0 d (f ∷ fs) → InFlight 1 d (map older fs)
+fly_on d f fs is h = let e = last_tick d f.age is in weaken 1 (f.age + 1) d (map older fs) (older_in_flight 0 f.age fs h.2) (omega (arith, e))
 
-pub all_passed : (d k : ℕ) (seen fs new : List Flight) → seen ≡ fs → new ≡ flights_aged d (take k seen) → length seen ≤ k → InFlight 0 d fs → 1 ≤ d → InFlight 1 d new
-all_passed d k seen fs new same is all h le = subst (λ gs. InFlight 1 d gs) (sym (is ∙ ap (λ gs. flights_aged d gs) (take_all k seen all ∙ same))) (aged_in_flight d fs h le)
+all_on : (d : ℕ) (f : Flight) (fs : List Flight) → (d - f.age == 1) ≡ false → InFlight 0 d (f ∷ fs) → InFlight 1 d (map older (f ∷ fs))
+all_on d f fs is h = let lt : f.age + 1 < d = grind (arith, is, h.1) in
+    weaken 1 (f.age + 1 + 1) d (map older (f ∷ fs)) (older_in_flight 0 (f.age + 1) (f ∷ fs) (h.0, omega arith, h.2)) (omega (arith, lt))
+
+pub landed_flights : (d : ℕ) (fs : List Flight) → lands d fs ≡ true → InFlight 0 d fs → map older (remove fs 0) ≡ flights_aged d fs
+unfolding flights_aged
+landed_flights d [] is h = cc
+landed_flights d (f ∷ fs) is h = rw (is_equal (f.age + 1) d (last_tick d f.age is)) (sym (all_fly 1 d (map older fs) (fly_on d f fs is h)))
+
+pub landed_file : (d : ℕ) (fs : List Flight) (file : List ℕ) (first : Flight) → lands d fs ≡ true → InFlight 0 d fs → first ≡ get_or fs 0 first → slice_set file first.reg first.value ≡ file_aged d fs file
+unfolding file_aged
+landed_file d [] file first is h at = cc
+landed_file d (f ∷ fs) file first is h at = ap (λ (g : Flight). slice_set file g.reg g.value) at ∙ rw (is_equal (f.age + 1) d (last_tick d f.age is), none_landed 1 d (map older fs) (fly_on d f fs is h)) refl
+
+pub landed_ages : (d : ℕ) (fs : List Flight) → lands d fs ≡ true → InFlight 0 d fs → d ≤ 7 → InFlight 0 7 (remove fs 0)
+landed_ages d [] is h le = cc
+landed_ages d (f ∷ fs) is h le = weaken 0 f.age 7 fs h.2 (omega (arith, h.1, le))
+
+pub flying_flights : (d : ℕ) (fs : List Flight) → lands d fs ≡ false → InFlight 0 d fs → map older fs ≡ flights_aged d fs
+unfolding flights_aged
+flying_flights d [] is h = refl
+flying_flights d (f ∷ fs) is h = sym (all_fly 1 d (map older (f ∷ fs)) (all_on d f fs is h))
+
+pub flying_file : (d : ℕ) (fs : List Flight) (file : List ℕ) → lands d fs ≡ false → InFlight 0 d fs → file ≡ file_aged d fs file
+unfolding file_aged
+flying_file d [] file is h = refl
+flying_file d (f ∷ fs) file is h = sym (ap (λ gs. applied gs file) (none_landed 1 d (map older (f ∷ fs)) (all_on d f fs is h)))
+
+-- of a list of flights the first so many have grown older
+grown_at : (k : ℕ) (fs : List Flight) (blank : Flight) → k < length fs → get_or (map older (take k fs) ++ drop k fs) k blank ≡ get_or fs k blank
+grown_at k [] blank lt = absurd (omega (arith, lt))
+grown_at zero (f ∷ fs) blank lt = refl
+grown_at (suc k) (f ∷ fs) blank lt = grown_at k fs blank (omega (arith, lt))
+
+grown_next : (k : ℕ) (fs : List Flight) (f blank : Flight) → k < length fs → f ≡ older (get_or fs k blank) → slice_set (map older (take k fs) ++ drop k fs) k f ≡ map older (take (suc k) fs) ++ drop (suc k) fs
+grown_next k [] f blank lt is = absurd (omega (arith, lt))
+grown_next zero (g ∷ fs) f blank lt is = ap (λ h. h ∷ fs) is
+grown_next (suc k) (g ∷ fs) f blank lt is = ap (λ gs. older g ∷ gs) (grown_next k fs f blank (omega (arith, lt)) is)
+
+pub grown_more : (k : ℕ) (fs now : List Flight) (blank : Flight) → k < length fs → now ≡ map older (take k fs) ++ drop k fs
+    → slice_set now k (older (get_or now k blank)) ≡ map older (take (k + 1) fs) ++ drop (k + 1) fs
+grown_more k fs now blank lt is =
+    let next : suc k ≡ k + 1 = omega arith in
+    ap (λ xs. slice_set xs k (older (get_or now k blank))) is
+    ∙ subst (λ n. slice_set (map older (take k fs) ++ drop k fs) k (older (get_or now k blank)) ≡ map older (take n fs) ++ drop n fs) next
+        (grown_next k fs (older (get_or now k blank)) blank lt (ap older (ap (λ xs. get_or xs k blank) is ∙ grown_at k fs blank lt)))
+
+pub grown_age : (k : ℕ) (fs now : List Flight) (blank : Flight) → InFlight 0 7 fs → k < length fs → now ≡ map older (take k fs) ++ drop k fs → (get_or now k blank).age < 7
+grown_age k fs now blank h lt is =
+    subst (λ (f : Flight). f.age < 7) (sym (ap (λ xs. get_or xs k blank) is ∙ grown_at k fs blank lt)) (in_flight_at 0 7 fs h k blank lt).1
+
+pub grown_all : (k : ℕ) (fs : List Flight) → length fs ≤ k → map older (take k fs) ++ drop k fs ≡ map older fs
+grown_all zero [] le = refl
+grown_all (suc k) [] le = refl
+grown_all zero (f ∷ fs) le = absurd (omega (arith, le))
+grown_all (suc k) (f ∷ fs) le = ap (λ gs. older f ∷ gs) (grown_all k fs (omega (arith, le)))
+
+pub aged_flights : (d : ℕ) (fs new : List Flight) → new ≡ flights_aged d fs → InFlight 0 d fs → 1 ≤ d → InFlight 1 d new
+aged_flights d fs new is h le = subst (λ gs. InFlight 1 d gs) (sym is) (aged_in_flight d fs h le)
 
 pub still_room : (d : ℕ) (fs : List Flight) → InFlight 1 d fs → d ≤ 7 → length fs < 8
 still_room d fs h le = let n = in_flight_length 1 d fs h in omega (arith, n, le)

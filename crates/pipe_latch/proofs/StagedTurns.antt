@@ -34,9 +34,9 @@ use Rattle.pipe_latch.specs.Staged.{staged}
 use Rattle.pipe_latch.proofs.ClockLemmas.{holds_so}
 
 -- what a tick leaves of results in flight and of the register file
-pub record Ages (file later : List ℕ) (fl fs : List Flight) (d : ℕ) (t : Clocked) : Type 0 where
+pub record Ages (before later : List ℕ) (fl fs : List Flight) (d : ℕ) (t : Clocked) : Type 0 where
   pub flights : fs ≡ flights_aged d fl
-  pub file : later ≡ file_aged d fl file
+  pub file : later ≡ file_aged d fl before
   pub depth : depth_of t.past.pipe ≡ d
   pub deep : (d == 0) ≡ false
 
@@ -154,6 +154,15 @@ did_stores done spare leaves (Waits port full) told a b m n p q h = absurd h
 did_stores done spare leaves Sleeps told a b m n p q h = absurd h
 did_stores done spare leaves Ends told a b m n p q h = absurd h
 did_stores done spare leaves (Stops cause) told a b m n p q h = absurd h
+
+-- an act leaves the registers as they were before its result is written
+pub did_regs : {P : Type 0} (done : P → List Action) (spare : P → ℕ) (leaves : P → Action → P → Type 0) (due : Due) (told : Done) (a b : Arch) (m n : List ℕ) (p q : P)
+    → PerformedBy done spare leaves due (Did told) a m p b n q → b.regs ≡ a.regs
+did_regs done spare leaves (Does deed) told a b m n p q h = ap (λ (x : Arch). x.regs) h.arch
+did_regs done spare leaves (Waits port full) told a b m n p q h = absurd h
+did_regs done spare leaves Sleeps told a b m n p q h = absurd h
+did_regs done spare leaves Ends told a b m n p q h = absurd h
+did_regs done spare leaves (Stops cause) told a b m n p q h = absurd h
 
 pipe_retired : (i : Option Instr) (at : ℕ) (jump : Jump) (x : Past) → (retired_here i at jump x).pipe ≡ x.pipe
 pipe_retired None at jump x = refl

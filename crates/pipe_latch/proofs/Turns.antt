@@ -1,5 +1,5 @@
 -- What a tick of a core with stages leaves.
-use Rattle.std.proofs.Common.{ℕ, ◌≡◌, ◌<◌, ◌++◌, Bool, List, Option, Some, None, IfSome, refl, sym, ap, subst, ◌∙◌}
+use Rattle.std.proofs.Common.{ℕ, ◌≡◌, ◌<◌, ◌++◌, ◌&&◌, Bool, true, false, List, Option, Some, None, IfSome, refl, sym, ap, subst, ◌∙◌}
 use Rattle.std.specs.Prelude.{is_some}
 use Rattle.core_regs.specs.declared.registers.Arch.{Arch}
 use Rattle.core_regs.specs.declared.registers.Write.{Write}
@@ -7,12 +7,16 @@ use Rattle.core_regs.specs.State.{bare, written}
 use Rattle.mb_decode.specs.declared.instruction.Instr.{Instr}
 use Rattle.isa_step.specs.Due.{here_at}
 use Rattle.timing_law.specs.Passing.{instr_of}
+use Rattle.timing_law.specs.Table.{depth_of}
 use Rattle.core_iface.specs.declared.Flight.{Flight}
 use Rattle.core_iface.specs.Flights.{applied, begun, file_aged, flights_aged}
 use Rattle.pipe_latch.specs.Clocks.{Clocked, IsSet, filled, set, stayed}
 use Rattle.pipe_latch.specs.Latches.{InFlight}
+use Rattle.pipe_latch.specs.Stages.{pipe_with}
 use Rattle.pipe_latch.proofs.ClockLemmas.{begins_set, fills_set, stays_set}
+use Rattle.pipe_latch.proofs.Depths.{at_depth, deep}
 use Rattle.pipe_latch.proofs.FlightLemmas.{aged_applied, registers_after}
+use Rattle.pipe_latch.proofs.StagedTurns.{Ages}
 
 pub filled_set : (t u : Clocked) (i : Option Instr) (s : Bool) → u ≡ filled t → IsSet t i s → IsSet u i s
 filled_set t u i s is h = subst (λ (x : Clocked). IsSet x i s) (sym is) (fills_set t i s h)
@@ -39,6 +43,21 @@ pub forwarded_after : (d : ℕ) (w : Option Write) (fl fs gs : List Flight) (fil
     → gs ≡ fs ++ begun w → regs ≡ applied fl file → new ≡ written w regs → new ≡ applied gs later
 forwarded_after d w fl fs gs file later regs new flying flights landed begin before write =
     rw (begin, flights, landed, registers_after d w fl file flying) (write ∙ ap (λ xs. written w xs) before)
+
+pub held_of : (held pending fills : Bool) → fills ≡ (held && pending) → fills ≡ true → held ≡ true
+held_of true pending fills is fill = refl
+held_of false pending fills is fill = sym is ∙ fill
+
+-- the register file and the results in flight after a tick
+pub ages_of : (n d : ℕ) (fl fs : List Flight) (file later : List ℕ) (t : Clocked) → d ≡ depth_of t.past.pipe → t.past.pipe ≡ pipe_with n
+    → fs ≡ flights_aged d fl → later ≡ file_aged d fl file → Ages file later fl fs d t
+ages_of n d fl fs file later t is pipe flights landed = record { flights = flights; file = landed; depth = sym is; deep = deep n d (is ∙ ap depth_of pipe) }
+
+pub flies_on : (n d : ℕ) (fs : List Flight) (t : Clocked) → d ≡ depth_of t.past.pipe → t.past.pipe ≡ pipe_with n → InFlight 1 d fs → InFlight 1 (depth_of (pipe_with n)) fs
+flies_on n d fs t is pipe h = at_depth 1 _ d fs (sym (is ∙ ap depth_of pipe)) h
+
+pub flies : (n d : ℕ) (fl : List Flight) (t : Clocked) → d ≡ depth_of t.past.pipe → t.past.pipe ≡ pipe_with n → InFlight 0 (depth_of (pipe_with n)) fl → InFlight 0 d fl
+flies n d fl t is pipe h = at_depth 0 d _ fl (is ∙ ap depth_of pipe) h
 
 pub names_of : (w : Option Write) → IfSome w (λ w. w.reg < 32) → (v : Write) → w ≡ Some v → v.reg < 32
 names_of None h v is = cc

@@ -1,12 +1,16 @@
 -- Words that were fetched are words of memory.
-use Rattle.std.proofs.Common.{ℕ, zero, suc, ◌≡◌, ◌<◌, ◌≤◌, ◌+◌, ◌-◌, ◌==◌, ◌&&◌, ◌||◌, nat_le, nat_lt, Bool, true, false, List, [], ◌∷◌, ◌++◌, Some, refl, sym, ap, subst, ◌∙◌, arith, take, drop, slice_get, slice_range, ◌⊎◌, inl, inr}
-use Rattle.std.specs.List.{find, list_any}
+use Rattle.std.proofs.Common.{ℕ, zero, suc, ◌≡◌, ◌<◌, ◌≤◌, ◌+◌, ◌-◌, ◌==◌, ◌&&◌, ◌||◌, nat_le, nat_lt, Bool, true, false, List, [], ◌∷◌, ◌++◌, Option, Some, None, refl, sym, ap, subst, ◌∙◌, arith, take, drop, slice_get, slice_range, ◌⊎◌, inl, inr}
+use Rattle.std.specs.List.{list_any}
 use Rattle.core_regs.specs.declared.causes.Order.{Order}
 use Rattle.core_regs.specs.declared.causes.Size.{Size}
 use Rattle.core_regs.specs.declared.causes.Size.TheVariants.{Byte, Half, Word}
 use Rattle.byte_mem.specs.Access.{bytes_of, loaded, stored}
 use Rattle.byte_mem.proofs.Storing.{length_stored, stored_elsewhere}
+use Rattle.isa_step.specs.declared.acts.Done.{Done}
 use Rattle.isa_step.specs.declared.acts.Store.{Store}
+use Rattle.isa_step.specs.Deeds.{after_store}
+use Rattle.prepared_act.specs.declared.flow.Flow.TheVariants.{On, Stored}
+use Rattle.prepared_act.specs.Retiring.{flow_by, flow_of}
 use Rattle.pipe_latch.specs.declared.fetching.Fetched.{Fetched}
 use Rattle.pipe_latch.specs.Latches.{AreWords, holds_at}
 
@@ -14,14 +18,30 @@ pub words_more : (m : List ℕ) (order : Order) (fs : List Fetched) (f : Fetched
 words_more m order [] f h is = (is, tt)
 words_more m order (g ∷ fs) f h is = (h.0, words_more m order fs f h.1 is)
 
-found_in : (m : List ℕ) (order : Order) (a : ℕ) (f g : Fetched) (fs : List Fetched) (t : Bool) → (g.addr == a) ≡ t → (find (λ (f : Fetched). f.addr == a) fs ≡ Some f → loaded m Word order a ≡ Some f.word)
-    → loaded m Word order g.addr ≡ Some g.word → find (λ (f : Fetched). f.addr == a) (g ∷ fs) ≡ Some f → loaded m Word order a ≡ Some f.word
-found_in m order a f g fs true is later word h = grind (arith, is, word, h)
-found_in m order a f g fs false is later word h = later (grind (arith, is, h))
+-- the oldest word
+pub first_word : (m : List ℕ) (order : Order) (a : ℕ) (fs : List Fetched) (f : Fetched) → AreWords m order fs → slice_get fs 0 ≡ Some f → f.addr ≡ a → loaded m Word order a ≡ Some f.word
+first_word m order a [] f h is at = cc
+first_word m order a (g ∷ fs) f h is at =
+    let same : g ≡ f = cc in
+    subst (λ (x : Fetched). loaded m Word order a ≡ Some x.word) same (subst (λ b. loaded m Word order b ≡ Some g.word) (ap (λ (x : Fetched). x.addr) same ∙ at) h.0)
 
-pub found_word : (m : List ℕ) (order : Order) (a : ℕ) (f : Fetched) (fs : List Fetched) → AreWords m order fs → find (λ (f : Fetched). f.addr == a) fs ≡ Some f → loaded m Word order a ≡ Some f.word
-found_word m order a f [] h is = cc
-found_word m order a f (g ∷ fs) h is = found_in m order a f g fs _ refl (found_word m order a f fs h.1) h.0 is
+-- what an act leaves of them, by where it led
+pub words_on : (m : List ℕ) (order other : Order) (done : Done) (fs : List Fetched) → On ≡ flow_of done → AreWords m other fs → AreWords (after_store order done.store m) other fs
+words_on m order other done fs is h = on_by done.jumped done.store is
+  where
+    on_by : (jumped : Bool) (store : Option Store) → On ≡ flow_by jumped store → AreWords (after_store order store m) other fs
+    on_by true store is = cc
+    on_by false None is = h
+    on_by false (Some s) is = cc
+
+pub words_stored : (m : List ℕ) (order other : Order) (done : Done) (addr : ℕ) (fs : List Fetched) → Stored addr ≡ flow_of done
+    → ((s : Store) → addr ≡ s.addr → AreWords (stored m s.size order s.addr s.word) other fs) → AreWords (after_store order done.store m) other fs
+words_stored m order other done addr fs is h = stored_by done.jumped done.store is
+  where
+    stored_by : (jumped : Bool) (store : Option Store) → Stored addr ≡ flow_by jumped store → AreWords (after_store order store m) other fs
+    stored_by true store is = cc
+    stored_by false None is = cc
+    stored_by false (Some s) is = h s cc
 
 -- a part of a list by its items
 take_same : (n : ℕ) (xs ys : List ℕ) → ((k : ℕ) → k < n → slice_get xs k ≡ slice_get ys k) → take n xs ≡ take n ys

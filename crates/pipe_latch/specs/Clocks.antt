@@ -1,8 +1,6 @@
 -- The time of a core with stages: its past, and how far its stages are.
 use Rattle.std.specs.Prelude.{ℕ, ◌≡◌, ◌+◌, ◌-◌, ◌≤◌, ◌<◌, ◌||◌, nat_lt, min, max, Bool, true, false, if◌then◌else◌, slice_index, length, Option}
 use Rattle.mb_decode.specs.declared.instruction.Instr.{Instr}
-use Rattle.op_table.specs.declared.kinds.Kind.{Kind}
-use Rattle.op_table.specs.declared.kinds.Kind.TheVariants.{Store}
 use Rattle.isa_step.specs.declared.acts.Done.{Done}
 use Rattle.isa_step.specs.declared.acts.Here.{Here}
 use Rattle.prepared_act.specs.declared.flow.Flow.{Flow}
@@ -95,7 +93,3 @@ loaded operands extra in_slot t = record t {
   steps = min 33 (t.ticks - max (max (max t.past.first (if in_slot then 0 else t.past.redirect)) t.past.next) operands);
   extra = extra;
 }
-
-abbrev pub is_store_kind : Kind → Bool
-is_store_kind (Store size) = true
-is_store_kind _ = false

@@ -1,5 +1,5 @@
 -- Results in flight, and words that were fetched.
-use Rattle.std.specs.Prelude.{ℕ, ◌≡◌, ◌<◌, ◌≤◌, ◌==◌, ◌+◌, ◌&&◌, nat_le, nat_lt, Bool, List, [], ◌∷◌, reverse, Option, Some}
+use Rattle.std.specs.Prelude.{ℕ, ◌≡◌, ◌<◌, ◌≤◌, ◌==◌, ◌+◌, ◌-◌, ◌&&◌, nat_le, nat_lt, Bool, false, List, [], ◌∷◌, reverse, Option, Some}
 use Rattle.std.specs.Option.{option_map}
 use Rattle.std.specs.List.{find}
 use Rattle.core_regs.specs.declared.causes.Order.{Order}
@@ -16,6 +16,11 @@ youngest fs n = option_map (λ (f : Flight). f.value) (find (λ (f : Flight). f.
 abbrev pub InFlight : ℕ → ℕ → List Flight → Type 0
 InFlight low high [] = low ≤ high
 InFlight low high (f ∷ fs) = (f.reg < 32) × (f.age < high) × InFlight low f.age fs
+
+-- the coming tick brings the oldest to the depth
+abbrev pub lands : ℕ → List Flight → Bool
+lands depth [] = false
+lands depth (f ∷ fs) = depth - f.age == 1
 
 -- each word that is kept is the word of memory at its address
 abbrev pub AreWords : List ℕ → Order → List Fetched → Type 0

@@ -1,11 +1,12 @@
 //! The time of a core with stages: how far they are, and its past.
 
-ghost use Rattle.std.specs.Prelude.{◌≡◌, ℕ, ◌<◌, ◌≤◌, ◌^◌, ◌+◌, ◌-◌, ◌||◌, IfSome, min, nat_lt, slice_index, true};
+ghost use Rattle.std.specs.Prelude.{◌≡◌, ℕ, ◌<◌, ◌≤◌, ◌^◌, ◌+◌, ◌-◌, ◌||◌, IfSome, Some, nat_lt, slice_index, true};
 ghost use Rattle.std.specs.Option.{option_copied};
 ghost use Rattle.mb_decode.specs.Meaning.{NamesRegisters};
-ghost use Rattle.timing_law.specs.Past.{begins_at, fresh};
-ghost use Rattle.timing_law.specs.Table.{depth_of, extra_for, first_of};
-ghost use Rattle.pipe_latch.specs.Clocks.{filled, holds, is_store_kind, jump_by, loaded, moved, set, stayed, stepped, went};
+ghost use Rattle.op_table.specs.Kinds.{stores};
+ghost use Rattle.timing_law.specs.Past.{fresh};
+ghost use Rattle.timing_law.specs.Table.{depth_of, first_of};
+ghost use Rattle.pipe_latch.specs.Clocks.{filled, holds, jump_by, loaded, moved, set, stayed, stepped, went};
 
 use isa_step::{Done, Here};
 use mb_decode::Instr;
@@ -54,7 +55,7 @@ impl Model for Clock {
 }
 
 fn is_store(kind: Kind) -> bool
-    ensures { result ≡ is_store_kind kind }
+    ensures { result ≡ stores kind }
 {
     matches!(kind, Kind::Store(_))
 }
@@ -164,18 +165,31 @@ impl Clock {
         }
     }
 
+    /// Passes a tick without an act, which leaves a slack.
+    #[inline(always)]
+    fn pass(&mut self, slack: u8)
+        requires young { self.old.ticks < 2 ^ 62 }
+        requires below { slack < 64 }
+        requires covered { self.old.wait - 1 + (self.old.extra - stepped self.old) ≤ slack }
+        ensures { self.new ≡ record (stayed self.old) { slack = slack } }
+    {
+        self.steps = self.stepped();
+        self.slack = slack;
+        self.start = self.start.saturating_sub(1);
+        self.refill = self.refill.saturating_sub(1);
+        self.busy = self.busy.saturating_sub(1);
+        self.operands = self.operands.saturating_sub(1);
+        self.ticks += 1;
+    }
+
     /// Passes a tick in which nothing was due.
     #[inline(always)]
     pub fn stay(&mut self)
         requires young { self.old.ticks < 2 ^ 62 }
         ensures { self.new ≡ stayed self.old }
     {
-        self.steps = self.stepped();
-        self.start = self.start.saturating_sub(1);
-        self.refill = self.refill.saturating_sub(1);
-        self.busy = self.busy.saturating_sub(1);
-        self.operands = self.operands.saturating_sub(1);
-        self.ticks += 1;
+        let slack = self.slack;
+        self.pass(slack);
     }
 
     /// Passes a tick in which the instruction at pc is held back.
@@ -186,8 +200,8 @@ impl Clock {
         ensures times { self.new ≡ filled self.old }
         ensures less { 0 < self.old.slack }
     {
-        self.stay();
-        self.slack -= 1;
+        let slack = self.slack - 1;
+        self.pass(slack);
     }
 
     /// Passes a tick with an act, by the word at which it was done and the pc after it.

@@ -1,20 +1,21 @@
 //! Words that were fetched ahead.
 
-ghost use Rattle.std.specs.Prelude.{◌≡◌, ℕ, ◌+◌, ◌==◌, ◌%◌, ◌||◌, [], IfSome, List};
-ghost use Rattle.std.specs.List.{find, list_any};
+ghost use Rattle.std.specs.Prelude.{◌≡◌, ℕ, ◌+◌, ◌==◌, ◌%◌, ◌||◌, [], List};
+ghost use Rattle.std.specs.List.{list_any};
 ghost use Rattle.core_regs.specs.declared.causes.Size.TheVariants.{Word};
 ghost use Rattle.core_regs.specs.State.{bare};
 ghost use Rattle.core_regs.specs.declared.causes.Order.{Order};
 ghost use Rattle.byte_mem.specs.Access.{loaded, stored};
-ghost use Rattle.mb_decode.specs.Meaning.{NamesRegisters};
 ghost use Rattle.isa_step.specs.Due.{here_at, met};
 ghost use Rattle.isa_step.specs.Deeds.{after_store};
+ghost use Rattle.isa_step.specs.declared.acts.Done.{Done};
+ghost use Rattle.isa_step.specs.declared.acts.Store.{Store};
+ghost use Rattle.prepared_act.specs.Retiring.{flow_of};
 ghost use Rattle.pipe_latch.specs.Latches.{AreWords, holds_at};
 
 use arrayvec::ArrayVec;
 use byte_mem::Memory;
 use core_regs::{Arch, Order, Size};
-use isa_step::{Done, Store};
 use prepared_act::Flow;
 
 /// A word that was fetched, and its address.
@@ -33,6 +34,17 @@ pub struct Queue {
     pub items: ArrayVec<Fetched, 8>,
     /// The order of bytes in which they were read.
     pub order: Order,
+}
+
+/// The word at an address of memory.
+fn read_word(m: &Memory, addr: u32, order: Order) -> Option<u32>
+    requires { addr % 4 ≡ 0 }
+    ensures { result ≡ loaded m.now Word order addr }
+{
+    match m.read(addr, Size::Word, order) {
+        Ok(word) => Some(word),
+        Err(_) => None,
+    }
 }
 
 impl Queue {
@@ -88,13 +100,16 @@ impl Queue {
         requires words { AreWords m.now self.now.order self.now.items.items }
         ensures { result ≡ loaded m.now Word self.now.order addr }
     {
-        match self.items.first() {
-            Some(first) if first.addr == addr => Some(first.word),
-            _ => m.read(addr, Size::Word, self.order).ok(),
+        if let Some(first) = self.items.first()
+            && first.addr == addr
+        {
+            return Some(first.word);
         }
+        read_word(m, addr, self.order)
     }
 
     /// The word at pc, by the words that were fetched or else by memory.
+    #[tactic(auto, unfolding(isa_step::specs::Due::here_at))]
     #[inline(always)]
     pub fn word_at_pc(&self, a: &Arch, m: &Memory) -> Option<u32>
         requires words { AreWords m.now self.now.order self.now.items.items }
@@ -104,7 +119,7 @@ impl Queue {
             return None;
         }
         if a.order != self.order {
-            return m.read(a.pc, Size::Word, a.order).ok();
+            return read_word(m, a.pc, a.order);
         }
         self.word_at(m, a.pc)
     }

@@ -1,14 +1,14 @@
 //! Results that are not yet in the register file.
 
-ghost use Rattle.std.specs.Prelude.{◌≡◌, ℕ, ◌<◌, ◌≤◌, ◌+◌, [], ◌∷◌, ◌++◌, IfSome, filter};
+ghost use Rattle.std.specs.Prelude.{◌≡◌, ◌<◌, ◌≤◌, [], ◌++◌, IfSome, map};
 ghost use Rattle.arrayvec.specs.ArrayVec.{array_vec_len};
 ghost use Rattle.core_regs.specs.State.{reg};
 ghost use Rattle.std.specs.List.{list_any};
 ghost use Rattle.mb_decode.specs.Meaning.{NamesRegisters};
 ghost use Rattle.mb_decode.specs.Registers.{reads};
 ghost use Rattle.isa_step.specs.Wants.{operands_of};
-ghost use Rattle.core_iface.specs.Flights.{applied, begun, flights_aged, file_aged, older, has_landed, still_flies};
-ghost use Rattle.pipe_latch.specs.Latches.{InFlight, youngest};
+ghost use Rattle.core_iface.specs.Flights.{applied, begun, flights_aged, file_aged, older};
+ghost use Rattle.pipe_latch.specs.Latches.{InFlight, lands, youngest};
 
 use arrayvec::ArrayVec;
 use core_iface::Flight;
@@ -20,6 +20,17 @@ use mb_decode::Instr;
 #[derive(Drop)]
 pub struct Flights {
     pub items: ArrayVec<Flight, 8>,
+}
+
+/// Each of some results grows older.
+#[inline(always)]
+fn grow_older(flights: &mut [Flight])
+    requires { InFlight 0 7 flights.old }
+    ensures { flights.new ≡ map older flights.old }
+{
+    for flight in flights.iter_mut() {
+        flight.age += 1;
+    }
 }
 
 impl Flights {
@@ -79,31 +90,40 @@ impl Flights {
         }
     }
 
+    /// Whether the coming tick brings the oldest result to the depth.
+    #[inline(always)]
+    fn lands(&self, depth: u8) -> bool
+        ensures { result ≡ lands depth self.now.items.items }
+    {
+        match self.items.first() {
+            Some(first) => depth.saturating_sub(first.age) == 1,
+            None => false,
+        }
+    }
+
     /// The oldest result lands in the register file, if the coming tick brings it to the depth.
     #[inline(always)]
     fn land(&mut self, depth: u8, file: &mut [u32; 32])
-        requires depth { (1 ≤ depth) × (depth ≤ 7) }
+        requires depth { depth ≤ 7 }
         requires ages { InFlight 0 depth self.old.items.items }
-        ensures flights { self.new.items.items ≡ left_flying depth self.old.items.items }
-        ensures file { file.new ≡ landed depth self.old.items.items file.old }
+        ensures flights { map older self.new.items.items ≡ flights_aged depth self.old.items.items }
+        ensures file { file.new ≡ file_aged depth self.old.items.items file.old }
+        ensures ages { InFlight 0 7 self.new.items.items }
     {
-        if let Some(first) = self.items.first()
-            && first.age + 1 == depth
-        {
-            file[first.reg as usize] = first.value;
-            self.items.remove(0);
+        if !self.lands(depth) {
+            return;
         }
+        let first = self.items.remove(0);
+        file[first.reg as usize] = first.value;
     }
 
     /// Each result grows older.
     #[inline(always)]
     fn grow_older(&mut self)
-        requires { All (λ f. f.age < 7) self.old.items.items }
+        requires { InFlight 0 7 self.old.items.items }
         ensures { self.new.items.items ≡ map older self.old.items.items }
     {
-        for flight in self.items.iter_mut() {
-            flight.age += 1;
-        }
+        grow_older(self.items.as_mut_slice());
     }
 
     /// Each result grows older, and one that reaches the depth is written to the register file.

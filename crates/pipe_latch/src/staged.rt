@@ -1,8 +1,7 @@
 //! A core with stages: what all pipelines but the plain one share.
 
-ghost use Rattle.std.specs.Prelude.{◌≡◌, ℕ, ◌<◌, ◌≤◌, ◌&&◌, IfSome, is_some, None, true, false};
+ghost use Rattle.std.specs.Prelude.{◌≡◌, ℕ, ◌<◌, ◌≤◌, ◌&&◌, ◌^◌, IfSome, is_some, length, None, true, false};
 ghost use Rattle.core_regs.specs.State.{bare, reg, write_of};
-ghost use Rattle.core_regs.specs.declared.registers.Write.{Write};
 ghost use Rattle.isa_step.specs.Due.{here_at};
 ghost use Rattle.timing_law.specs.Passing.{instr_of};
 ghost use Rattle.timing_law.specs.Table.{depth_of};
@@ -71,7 +70,8 @@ fn fills<P: Sees>(early: bool, here: &Option<Here>, a: &Arch, p: &P) -> bool
 /// What an inner act wrote.
 #[inline(always)]
 fn written(word: &Prepared, a: &Arch) -> Option<Write>
-    ensures { result ≡ write_of word.now.result (reg a.now.regs word.now.result) }
+    ensures value { result ≡ write_of word.now.result (reg a.now.regs word.now.result) }
+    ensures named { IfSome result (λ w. w.reg < 32) }
 {
     if word.result == 0 {
         None
@@ -82,6 +82,12 @@ fn written(word: &Prepared, a: &Arch) -> Option<Write>
         })
     }
 }
+
+/// There are 32 registers: what the proof of an act at once needs of their type.
+#[inline(always)]
+fn are_all(regs: &[u32; 32])
+    ensures { length regs.now ≡ 32 }
+{}
 
 /// Whether a core runs and is awake.
 #[inline(always)]
@@ -164,6 +170,7 @@ impl<const STAGES: u8> StagedCore<STAGES> {
             self.clock.fill();
             return true;
         }
+        are_all(&self.arch.regs);
         let pc = self.arch.pc;
         let word = self.words.at(pc);
         let Some(flow) = act_at_once(word, &mut self.arch, &mut self.memory) else {
@@ -187,7 +194,7 @@ impl<const STAGES: u8> StagedCore<STAGES> {
 
 impl<const STAGES: u8> Core for StagedCore<STAGES> {
     ghost use Rattle.pipe_latch.specs.Cores.{staged_state};
-    ghost use Rattle.std.specs.Prelude.{refl};
+    ghost use Rattle.std.proofs.Common.{sym};
 
     ghost state = { staged_state };
 
@@ -287,5 +294,5 @@ impl<const STAGES: u8> Core for StagedCore<STAGES> {
         idle_at(&self.arch, &self.words.here_at(&self.arch, &self.memory), ports)
     }
 
-    ghost split = { λ c. refl };
+    ghost split = { λ c. sym c.forwarded };
 }

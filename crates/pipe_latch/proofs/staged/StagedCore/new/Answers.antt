@@ -1,7 +1,4 @@
-use Rattle.std.proofs.Common.{sym, subst, arith, refl, []}
 use Rattle.timing_law.specs.Table.{depth_of}
-use Rattle.core_iface.specs.declared.Flight.{Flight}
-use Rattle.pipe_latch.specs.Latches.{InFlight}
 use Rattle.pipe_latch.specs.Stages.{pipe_with}
 use Rattle.pipe_latch.proofs.Depths.{none_fly}
 use Rattle.pipe_latch.proofs.staged.StagedCore.new.Goals as goal
