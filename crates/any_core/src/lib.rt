@@ -46,7 +46,7 @@ impl Core for AnyCore {
     ghost use Rattle.any_core.specs.States.{any_state};
     ghost use Rattle.any_core.specs.declared.AnyCore.TheVariants.{Plain, Three, Five, Eight};
     ghost use Rattle.core_iface.specs.Cores.{IsSplit};
-    ghost use Rattle.std.specs.Prelude.{refl};
+    ghost use Rattle.std.proofs.Common.{refl, sym};
 
     ghost state = { any_state };
 
@@ -168,5 +168,5 @@ impl Core for AnyCore {
         }
     }
 
-    ghost split = { λ core. elim core as (λ c. IsSplit (any_state c)) [ Plain c ↦ refl | Three c ↦ refl | Five c ↦ refl | Eight c ↦ refl ] };
+    ghost split = { λ core. elim core as (λ c. IsSplit (any_state c)) [ Plain c ↦ refl | Three c ↦ sym c.forwarded | Five c ↦ sym c.forwarded | Eight c ↦ sym c.forwarded ] };
 }
