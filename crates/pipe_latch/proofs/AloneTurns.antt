@@ -30,7 +30,7 @@ use Rattle.core_iface.specs.Flights.{begun, file_after, file_aged, flights_after
 use Rattle.core_iface.specs.Ticks as ticks
 use Rattle.core_iface.specs.Words.{IsAt, IsKept, goes_on}
 use Rattle.core_iface.proofs.Doing.{fills_alone}
-use Rattle.pipe_latch.specs.Clocks.{Clocked, IsSet, filled, holds, jump_by, set, stayed, went}
+use Rattle.pipe_latch.specs.Clocks.{Clocked, IsSet, filled, holds, jump_by, left_later, set, went}
 use Rattle.pipe_latch.specs.Staged.{staged}
 use Rattle.pipe_latch.proofs.Leaving.{known}
 use Rattle.pipe_latch.proofs.StagedTurns.{Ages, holds_early, staged_ticked}
@@ -43,7 +43,7 @@ pub staged_fills_alone : (a : Arch) (m : List ℕ) (fl fs : List Flight) (file l
 staged_fills_alone a m fl fs file later d t u ages is_set held fill less runs up goes =
     subst (λ (w : Clocked). ticks.TicksAlone (staged a file m fl t) (staged a later m fs w)) (sym fill)
     (fills_alone (staged a file m fl t) (staged a later m fs (filled t)) runs up goes (sym (holds_early a m file fl t is_set) ∙ held) (omega (arith, less))
-    (staged_ticked a a m m fl fs file later d (t.slack - 1) (t.wait - 1) (stayed t).steps t refl refl ages))
+    (staged_ticked a a m m fl fs file later d (t.slack - 1) (t.wait - 1) (left_later t) t refl refl ages))
 
 -- where an instruction leads is told by its flow
 jump_so : (jumped : Bool) (store : Option Store) (pc : ℕ) → jump_by (flow_by jumped store) pc ≡ (if jumped then Taken else if strikes store pc then Struck else On)

@@ -1,5 +1,5 @@
 -- The counters of the stages tell exactly when an instruction is due.
-use Rattle.std.proofs.Common.{ℕ, ◌≡◌, ◌<◌, ◌≤◌, ◌+◌, ◌-◌, ◌==◌, ◌&&◌, ◌||◌, not, nat_lt, min, max, Bool, true, false, List, Option, Some, None, refl, sym, ap, subst, ◌∙◌, arith, length, slice_index, slice_set, if◌then◌else◌, replicate}
+use Rattle.std.proofs.Common.{ℕ, ◌≡◌, ◌<◌, ◌≤◌, ◌+◌, ◌-◌, ◌==◌, ◌||◌, nat_lt, max, Bool, true, false, List, Option, Some, None, refl, sym, ap, subst, ◌∙◌, arith, length, slice_index, slice_set, if◌then◌else◌, replicate}
 use Rattle.std.proofs.lemmas.List.{length-set, get_or-set_same, get_or-set_other, get_or_past, get_or-replicate, length-replicate}
 use Rattle.mb_decode.specs.declared.instruction.Instr.{Instr}
 use Rattle.mb_decode.specs.Registers.{reads_a, reads_b, reads_d}
@@ -23,60 +23,31 @@ use Rattle.op_table.specs.declared.kinds.Kind.{Kind}
 use Rattle.op_table.specs.declared.kinds.Kind.TheVariants.{Divide}
 use Rattle.prepared_act.specs.declared.prepared.Prepared.{Prepared}
 use Rattle.prepared_act.specs.Prepared.{is_inner}
-use Rattle.pipe_latch.specs.Clocks.{Clocked, IsNear, IsSet, IsTimed, filled, holds, loaded, set, stayed, stepped, wait_of}
+use Rattle.pipe_latch.specs.Clocks.{Clocked, IsNear, IsSet, IsTimed, filled, holds, left_later, loaded, set, stayed}
 
--- the counters tell in how many ticks no stage holds the instruction back
-lt_zero : (a b : ℕ) → (nat_lt 0 a || nat_lt 0 b) ≡ nat_lt 0 (max a b)
-lt_zero a b = grind arith
-
-pub waits_so : (start refill busy operands : ℕ) → (nat_lt 0 start || nat_lt 0 refill || nat_lt 0 busy || nat_lt 0 operands) ≡ nat_lt 0 (wait_of start refill busy operands)
-waits_so start refill busy operands =
-    ap (λ z. z || nat_lt 0 operands) (ap (λ z. z || nat_lt 0 busy) (lt_zero start refill) ∙ lt_zero (max start refill) busy) ∙ lt_zero (max (max start refill) busy) operands
-
-less_one : (a b : ℕ) → max (a - 1) (b - 1) ≡ max a b - 1
-less_one a b = omega arith
-
-pub wait_falls : (start refill busy operands : ℕ) → wait_of (start - 1) (refill - 1) (busy - 1) (operands - 1) ≡ wait_of start refill busy operands - 1
-wait_falls start refill busy operands = omega arith
-
-pub wait_set : (first redirect next operands ticks : ℕ) → wait_of (first - ticks) (redirect - ticks) (next - ticks) (operands - ticks) ≡ max (max (max first redirect) next) operands - ticks
-wait_set first redirect next operands ticks = omega arith
-
--- and with the steps of the divider whether it is due
-few_extra_by : (p : Pipe) (b : Bool) → (if b then divide_extra p else 0) ≤ 33
-few_extra_by Plain true = omega arith
-few_extra_by Three true = omega arith
-few_extra_by Five true = omega arith
-few_extra_by Eight true = omega arith
-few_extra_by p false = omega arith
-
-pub few_extra : (p : Pipe) (i : Option Instr) → extra_for p i ≤ 33
-few_extra p None = omega arith
-few_extra p (Some i) = few_extra_by p (is_divide (kind_of i.op))
-
-due_by : (t b w s e : ℕ) → w ≡ b - t → s ≡ min 33 (t - b) → e ≤ 33 → (nat_lt 0 w || nat_lt s e) ≡ nat_lt t (b + e)
-due_by t b w s e wait steps few = grind (arith, wait, steps, few)
+-- the counters tell whether an instruction is due
+due_by : (t b w l e : ℕ) → w ≡ b - t → l ≡ e - (t - b) → (nat_lt 0 w || nat_lt 0 l) ≡ nat_lt t (b + e)
+due_by t b w l e wait left = grind (arith, wait, left)
 
 pub holds_so : (t : Clocked) (i : Option Instr) (in_slot : Bool) → IsSet t i in_slot → holds t ≡ nat_lt t.ticks (due_at t.past i in_slot)
 unfolding due_at
-holds_so t i in_slot h = due_by t.ticks (begins_at t.past i in_slot) t.wait t.steps t.extra h.wait h.steps (rw h.extra (few_extra t.past.pipe i)) ∙ ap (λ e. nat_lt t.ticks (begins_at t.past i in_slot + e)) h.extra
+holds_so t i in_slot h = due_by t.ticks (begins_at t.past i in_slot) t.wait t.left (extra_for t.past.pipe i) h.wait h.left
 
 -- a tick passes
-step_by : (t b w s : ℕ) → w ≡ b - t → s ≡ min 33 (t - b) → (if nat_lt 0 w then s else min 33 (s + 1)) ≡ min 33 ((t + 1) - b)
-step_by t b w s wait steps = grind (arith, wait, steps)
+step_by : (t b w l e : ℕ) → w ≡ b - t → l ≡ e - (t - b) → (if nat_lt 0 w then l else l - 1) ≡ e - ((t + 1) - b)
+step_by t b w l e wait left = grind (arith, wait, left)
 
 pub stays_set : (t : Clocked) (i : Option Instr) (in_slot : Bool) → IsSet t i in_slot → IsSet (stayed t) i in_slot
 stays_set t i in_slot h = record {
   wait = omega (arith, h.wait);
-  steps = step_by t.ticks (begins_at t.past i in_slot) t.wait t.steps h.wait h.steps;
-  extra = h.extra;
+  left = step_by t.ticks (begins_at t.past i in_slot) t.wait t.left (extra_for t.past.pipe i) h.wait h.left;
 }
 
 pub fills_set : (t : Clocked) (i : Option Instr) (in_slot : Bool) → IsSet t i in_slot → IsSet (filled t) i in_slot
-fills_set t i in_slot h = let s = stays_set t i in_slot h in record { wait = s.wait; steps = s.steps; extra = s.extra }
+fills_set t i in_slot h = let s = stays_set t i in_slot h in record { wait = s.wait; left = s.left }
 
 pub begins_set : (t : Clocked) (i : Option Instr) (in_slot : Bool) → IsSet (set i in_slot t) i in_slot
-begins_set t i in_slot = record { wait = refl; steps = refl; extra = refl }
+begins_set t i in_slot = record { wait = refl; left = refl }
 
 near_more : (x : Past) (high more : ℕ) → IsNear x high → high ≤ more → IsNear x more
 near_more x high more h le = record {
@@ -87,32 +58,31 @@ near_more x high more h le = record {
   ready = λ r. let here = h.ready r in omega (arith, here, le);
 }
 
-covers_by : (wait steps extra slack : ℕ) → extra ≤ 33 → wait + (extra - steps) ≤ slack → wait - 1 + (extra - (if nat_lt 0 wait then steps else min 33 (steps + 1))) ≤ slack
-covers_by wait steps extra slack few le = grind (arith, few, le)
+covers_by : (wait left slack : ℕ) → wait + left ≤ slack → wait - 1 + (if nat_lt 0 wait then left else left - 1) ≤ slack
+covers_by wait left slack le = grind (arith, le)
 
-pub stays_covered : (t : Clocked) → IsTimed t → t.wait - 1 + (t.extra - stepped t) ≤ t.slack
-stays_covered t h = covers_by t.wait t.steps t.extra t.slack h.extra h.covered
+pub stays_covered : (t : Clocked) → IsTimed t → t.wait - 1 + left_later t ≤ t.slack
+stays_covered t h = covers_by t.wait t.left t.slack h.covered
 
-pub passes_timed : (t : Clocked) (slack wait steps : ℕ) → IsTimed t → slack < 64 → t.wait - 1 + (t.extra - stepped t) ≤ slack → wait ≡ t.wait - 1 → steps ≡ stepped t
-    → IsTimed (record t { ticks = t.ticks + 1; slack = slack; wait = wait; steps = steps })
-passes_timed t slack wait steps h below le waits is = record {
-  slack = below;
-  fewer = omega (arith, h.fewer);
-  near = near_more t.past (t.ticks + 30) (t.ticks + 1 + 30) h.near (omega arith);
-  extra = h.extra;
-  covered = rw (waits, is) le;
-}
-
-fewer_by : (wait steps extra slack : ℕ) → extra ≤ 33 → (nat_lt 0 wait || nat_lt steps extra) ≡ true → wait + (extra - steps) ≤ slack
-    → (0 < slack) × (wait - 1 + (extra - (if nat_lt 0 wait then steps else min 33 (steps + 1))) ≤ slack - 1)
-fewer_by wait steps extra slack few holds le = (grind (arith, few, holds, le), grind (arith, few, holds, le))
+fewer_by : (wait left slack : ℕ) → (nat_lt 0 wait || nat_lt 0 left) ≡ true → wait + left ≤ slack
+    → (0 < slack) × (wait - 1 + (if nat_lt 0 wait then left else left - 1) ≤ slack - 1)
+fewer_by wait left slack holds le = (grind (arith, holds, le), grind (arith, holds, le))
 
 -- the slack covers the ticks before the next act
 pub has_slack : (t : Clocked) → IsTimed t → holds t ≡ true → 0 < t.slack
-has_slack t h held = (fewer_by t.wait t.steps t.extra t.slack h.extra held h.covered).0
+has_slack t h held = (fewer_by t.wait t.left t.slack held h.covered).0
 
-pub fills_covered : (t : Clocked) → IsTimed t → holds t ≡ true → t.wait - 1 + (t.extra - stepped t) ≤ t.slack - 1
-fills_covered t h held = (fewer_by t.wait t.steps t.extra t.slack h.extra held h.covered).1
+pub fills_covered : (t : Clocked) → IsTimed t → holds t ≡ true → t.wait - 1 + left_later t ≤ t.slack - 1
+fills_covered t h held = (fewer_by t.wait t.left t.slack held h.covered).1
+
+pub passes_timed : (t : Clocked) (slack wait left : ℕ) → IsTimed t → slack < 64 → t.wait - 1 + left_later t ≤ slack → wait ≡ t.wait - 1 → left ≡ left_later t
+    → IsTimed (record t { ticks = t.ticks + 1; slack = slack; wait = wait; left = left })
+passes_timed t slack wait left h below le waits is = record {
+  slack = below;
+  fewer = omega (arith, h.fewer);
+  near = near_more t.past (t.ticks + 30) (t.ticks + 1 + 30) h.near (omega arith);
+  covered = rw (waits, is) le;
+}
 
 -- a new core
 zero_at : (n r : ℕ) → slice_index (replicate n 0) r ≡ 0
@@ -124,14 +94,13 @@ few_first Three = omega arith
 few_first Five = omega arith
 few_first Eight = omega arith
 
-pub new_is_timed : (p : Pipe) → IsTimed (record { acts = 0; ticks = 0; slack = 63; wait = wait_of (first_of p) 0 0 0; steps = 0; extra = 0; past = fresh p })
+pub new_is_timed : (p : Pipe) → IsTimed (record { acts = 0; ticks = 0; slack = 63; wait = first_of p; left = 0; past = fresh p })
 new_is_timed p =
     let few = few_first p in
     record {
       slack = omega arith;
       fewer = omega arith;
       near = record { registers = refl; first = omega (arith, few); redirect = omega arith; next = omega arith; ready = λ r. rw (zero_at 32 r) (omega arith) };
-      extra = omega arith;
       covered = omega (arith, few);
     }
 
@@ -217,7 +186,6 @@ moves_timed here done pc t past is h =
       slack = omega arith;
       fewer = omega (arith, h.fewer);
       near = subst (λ (x : Past). IsNear x (t.ticks + 1 + 30)) (sym is) (near_more _ (t.ticks + 30) (t.ticks + 1 + 30) near (omega arith));
-      extra = h.extra;
       covered = omega (arith, h.covered, h.slack);
     }
 
@@ -229,7 +197,6 @@ goes_timed i jump t past is h =
       slack = omega arith;
       fewer = omega (arith, h.fewer);
       near = subst (λ (x : Past). IsNear x (t.ticks + 1 + 30)) (sym is) (near_more _ (t.ticks + 30) (t.ticks + 1 + 30) near (omega arith));
-      extra = h.extra;
       covered = omega (arith, h.covered, h.slack);
     }
 
@@ -257,17 +224,12 @@ begins_near x i in_slot high h =
     let slot = slot_near in_slot x.redirect high h.redirect in
     omega (arith, read, slot, h.first, h.next)
 
-pub set_timed : (i : Option Instr) (in_slot : Bool) (t : Clocked) → IsTimed t → t.slack ≡ 63 → IsTimed (set i in_slot t)
-set_timed i in_slot t h full =
-    let begins = begins_near t.past i in_slot (t.ticks + 30) h.near in
-    let few = few_extra t.past.pipe i in
-    record { slack = h.slack; fewer = h.fewer; near = h.near; extra = few; covered = omega (arith, begins, few, full) }
+pub begins_soon : (t u : Clocked) (i : Option Instr) (in_slot : Bool) (begins : ℕ) → begins ≡ begins_at t.past i in_slot → IsTimed t → t ≡ u → begins ≤ u.ticks + 30
+begins_soon t u i in_slot begins is h same =
+    subst (λ (x : Clocked). begins ≤ x.ticks + 30) same (subst (λ n. n ≤ t.ticks + 30) (sym is) (begins_near t.past i in_slot (t.ticks + 30) h.near))
 
-pub operands_near : (t u : Clocked) (i : Option Instr) (operands : ℕ) → operands ≡ operands_at i t.past.ready → IsTimed t → t ≡ u → operands ≤ u.ticks + 30
-unfolding operands_at
-operands_near t u i operands is h same =
-    let read = read_near i (λ r. slice_index t.past.ready r) (t.ticks + 30) h.near.ready in
-    subst (λ (x : Clocked). operands ≤ x.ticks + 30) same (omega (arith, is, read))
+pub loads_timed : (t : Clocked) (begins extra : ℕ) → IsTimed t → t.slack ≡ 63 → begins ≤ t.ticks + 30 → extra ≤ 33 → IsTimed (loaded begins extra t)
+loads_timed t begins extra h full near few = record { slack = h.slack; fewer = h.fewer; near = h.near; covered = omega (arith, near, few, full) }
 
 -- an inner instruction is no divide
 no_extra : (p : Pipe) (kind : Kind) → is_inner kind ≡ true → extra_of p kind ≡ 0
@@ -275,8 +237,8 @@ unfolding is_inner
 no_extra p (Divide signed) inner = cc
 no_extra p kind inner = refl
 
-pub inner_set : (w : Prepared) (in_slot : Bool) (operands : ℕ) (t u : Clocked) → u ≡ loaded operands 0 in_slot t → operands ≡ operands_at (Some w.instr) t.past.ready → w.is_inner ≡ true
+pub inner_set : (w : Prepared) (in_slot : Bool) (begins : ℕ) (t u : Clocked) → u ≡ loaded begins 0 t → begins ≡ begins_at t.past (Some w.instr) in_slot → w.is_inner ≡ true
     → u ≡ set (Some w.instr) in_slot t
-inner_set w in_slot operands t u is read inner =
-    is ∙ ap (λ n. loaded n 0 in_slot t) read
-    ∙ ap (λ e. loaded (operands_at (Some w.instr) t.past.ready) e in_slot t) (sym (no_extra t.past.pipe (kind_of w.instr.op) (w.inner inner).kind))
+inner_set w in_slot begins t u is same inner =
+    is ∙ ap (λ n. loaded n 0 t) same
+    ∙ ap (λ e. loaded (begins_at t.past (Some w.instr) in_slot) e t) (sym (no_extra t.past.pipe (kind_of w.instr.op) (w.inner inner).kind))

@@ -29,7 +29,7 @@ use Rattle.core_iface.specs.Cores.{CoreState, is_early, is_held}
 use Rattle.core_iface.specs.Ticks as ticks
 use Rattle.core_iface.proofs.Pending.{pending}
 use Rattle.core_iface.proofs.Turns.{did_turn, fill_turn, rest_answer, rest_turn, rests_keep}
-use Rattle.pipe_latch.specs.Clocks.{Clocked, IsSet, filled, holds, moved, set, stayed}
+use Rattle.pipe_latch.specs.Clocks.{Clocked, IsSet, filled, holds, left_later, moved, set, stayed}
 use Rattle.pipe_latch.specs.Staged.{staged}
 use Rattle.pipe_latch.proofs.ClockLemmas.{holds_so}
 
@@ -66,9 +66,9 @@ staged_moved a b m n fl fs gs file later d t here told deed is_told arch memory 
     (subst (λ (e : Done). staged (record deed.arch { regs = written e.write a.regs }) (file_aged d fl file) (after_store a.order deed.done.store m) (flights_aged d fl ++ begun e.write) (moved (here_at (bare a) m) e deed.arch.pc t) ≡ in_either d false) is_told refl) in
     first ∙ sym (ap (in_either d) ages.deep) ∙ sym (ap in_depth ages.depth)
 
-pub staged_ticked : (a b : Arch) (m n : List ℕ) (fl fs : List Flight) (file later : List ℕ) (d slack wait steps : ℕ) (t : Clocked) → b ≡ a → n ≡ m → Ages file later fl fs d t
-    → staged b later n fs (record t { ticks = t.ticks + 1; slack = slack; wait = wait; steps = steps }) ≡ record (ticks.ticked (staged a file m fl t)) { slack = slack }
-staged_ticked a b m n fl fs file later d slack wait steps t arch memory ages =
+pub staged_ticked : (a b : Arch) (m n : List ℕ) (fl fs : List Flight) (file later : List ℕ) (d slack wait left : ℕ) (t : Clocked) → b ≡ a → n ≡ m → Ages file later fl fs d t
+    → staged b later n fs (record t { ticks = t.ticks + 1; slack = slack; wait = wait; left = left }) ≡ record (ticks.ticked (staged a file m fl t)) { slack = slack }
+staged_ticked a b m n fl fs file later d slack wait left t arch memory ages =
     let in_depth : ℕ → CoreState = λ deep. record {
       view = record { arch = a; memory = m };
       acts = t.acts;
@@ -78,7 +78,7 @@ staged_ticked a b m n fl fs file later d slack wait steps t arch memory ages =
       flights = flights_aged deep fl;
       past = t.past;
     } in
-    let first : staged b later n fs (record t { ticks = t.ticks + 1; slack = slack; wait = wait; steps = steps }) ≡ in_depth d =
+    let first : staged b later n fs (record t { ticks = t.ticks + 1; slack = slack; wait = wait; left = left }) ≡ in_depth d =
     rw (arch, memory, ages.flights, ages.file) refl in
     first ∙ sym (ap in_depth ages.depth)
 
@@ -132,7 +132,7 @@ staged_rests done spare leaves shows here fills why answer a b m n fl fs file la
     (subst (λ (w : Clocked). ticks.Ticks done spare leaves (shows p) (ticks.rest_of why (is_quiet (bare a) (here_at (bare a) m) (shows p))) (staged a file m fl t) p (staged b later n fs w) q) (sym stays)
     (record {
       does = rest_turn done spare leaves _ _ _ why a b m n p q _ _ h.does (sym (fills_so a m file fl (shows p) here t fills finds) ∙ goes)
-          (λ arch memory. staged_ticked a b m n fl fs file later d t.slack (t.wait - 1) (stayed t).steps t arch memory ages);
+          (λ arch memory. staged_ticked a b m n fl fs file later d t.slack (t.wait - 1) (left_later t) t arch memory ages);
     }))
 
 pub staged_fills : {P : Type 0} (done : P → List Action) (spare : P → ℕ) (leaves : P → Action → P → Type 0) (shown : Shown) (here : Option Here) (fills : Bool) (a : Arch) (m : List ℕ)
@@ -143,7 +143,7 @@ staged_fills done spare leaves shown here fills a m fl fs file later d t u p age
     subst (λ (w : Clocked). ticks.Ticks done spare leaves shown tick.Filling (staged a file m fl t) p (staged a later m fs w) p) (sym fill)
     (record {
       does = fill_turn done spare leaves _ _ _ p p _ _ (sym (fills_so a m file fl shown here t fills finds) ∙ goes)
-          (record { less = omega (arith, less); core = staged_ticked a a m m fl fs file later d (t.slack - 1) (t.wait - 1) (stayed t).steps t refl refl ages; ports = refl });
+          (record { less = omega (arith, less); core = staged_ticked a a m m fl fs file later d (t.slack - 1) (t.wait - 1) (left_later t) t refl refl ages; ports = refl });
     })
 
 -- what stays of a core that does nothing, of its memory at an act, and of its pipeline

@@ -1,5 +1,5 @@
 -- The time of a core with stages: its past, and how far its stages are.
-use Rattle.std.specs.Prelude.{ℕ, ◌≡◌, ◌+◌, ◌-◌, ◌≤◌, ◌<◌, ◌||◌, nat_lt, min, max, Bool, true, false, if◌then◌else◌, slice_index, length, Option}
+use Rattle.std.specs.Prelude.{ℕ, ◌≡◌, ◌+◌, ◌-◌, ◌≤◌, ◌<◌, ◌||◌, nat_lt, Bool, true, false, if◌then◌else◌, slice_index, length, Option}
 use Rattle.mb_decode.specs.declared.instruction.Instr.{Instr}
 use Rattle.isa_step.specs.declared.acts.Done.{Done}
 use Rattle.isa_step.specs.declared.acts.Here.{Here}
@@ -13,20 +13,14 @@ use Rattle.timing_law.specs.Passing.{is_ahead, past_after}
 use Rattle.timing_law.specs.Table.{extra_for}
 
 -- the acts and ticks so far, the slack, in how many ticks no stage holds the instruction at pc back, the steps that the
--- divider has done for it and those that it takes, and the past
+-- divider has left to do for it, and the past
 pub record Clocked : Type 0 where
   pub acts : ℕ
   pub ticks : ℕ
   pub slack : ℕ
   pub wait : ℕ
-  pub steps : ℕ
-  pub extra : ℕ
+  pub left : ℕ
   pub past : Past
-
--- no stage holds the instruction back when the pipeline is full, the word at pc is decoded, execution is free and the operands
--- are ready
-abbrev pub wait_of : ℕ → ℕ → ℕ → ℕ → ℕ
-wait_of start refill busy operands = max (max (max start refill) busy) operands
 
 -- no number of the past lies far ahead
 pub record IsNear (x : Past) (high : ℕ) : Type 0 where
@@ -41,19 +35,18 @@ pub record IsTimed (t : Clocked) : Type 0 where
   pub slack : t.slack < 64
   pub fewer : t.acts ≤ t.ticks
   pub near : IsNear t.past (t.ticks + 30)
-  pub extra : t.extra ≤ 33
-  pub covered : t.wait + (t.extra - t.steps) ≤ t.slack
+  pub covered : t.wait + t.left ≤ t.slack
 
 -- a stage holds the instruction at pc back, or the divider has steps to do
 abbrev pub holds : Clocked → Bool
-holds t = nat_lt 0 t.wait || nat_lt t.steps t.extra
+holds t = nat_lt 0 t.wait || nat_lt 0 t.left
 
--- the divider does a step in each tick in which no stage before it holds the instruction back, up to the last
-abbrev pub stepped : Clocked → ℕ
-stepped t = if nat_lt 0 t.wait then t.steps else min 33 (t.steps + 1)
+-- the divider does a step in each tick in which no stage before it holds the instruction back
+abbrev pub left_later : Clocked → ℕ
+left_later t = if nat_lt 0 t.wait then t.left else t.left - 1
 
 abbrev pub stayed : Clocked → Clocked
-stayed t = record t { ticks = t.ticks + 1; wait = t.wait - 1; steps = stepped t }
+stayed t = record t { ticks = t.ticks + 1; wait = t.wait - 1; left = left_later t }
 
 abbrev pub filled : Clocked → Clocked
 filled t = record (stayed t) { slack = t.slack - 1 }
@@ -72,24 +65,14 @@ jump_by (flow.Stored addr) pc = if is_ahead addr pc then Struck else On
 abbrev pub went : Instr → Flow → ℕ → Clocked → Clocked
 went i flow pc t = record t { acts = t.acts + 1; ticks = t.ticks + 1; slack = 63; past = retired i t.ticks (jump_by flow pc) t.past }
 
--- the counters are those of an instruction: in how many ticks it may begin, the steps that were done since it could, and those
--- that it takes
+-- the counters are those of an instruction: in how many ticks it may begin, and the steps that are left to do from then on
 pub record IsSet (t : Clocked) (i : Option Instr) (in_slot : Bool) : Type 0 where
   pub wait : t.wait ≡ begins_at t.past i in_slot - t.ticks
-  pub steps : t.steps ≡ min 33 (t.ticks - begins_at t.past i in_slot)
-  pub extra : t.extra ≡ extra_for t.past.pipe i
+  pub left : t.left ≡ extra_for t.past.pipe i - (t.ticks - begins_at t.past i in_slot)
+
+-- the counters for an instruction that may begin in a tick, and of which the divider does so many steps
+abbrev pub loaded : ℕ → ℕ → Clocked → Clocked
+loaded begins extra t = record t { wait = begins - t.ticks; left = extra - (t.ticks - begins) }
 
 abbrev pub set : Option Instr → Bool → Clocked → Clocked
-set i in_slot t = record t {
-  wait = begins_at t.past i in_slot - t.ticks;
-  steps = min 33 (t.ticks - begins_at t.past i in_slot);
-  extra = extra_for t.past.pipe i;
-}
-
--- the counters for an instruction whose operands are ready in a tick, and which takes so many steps of the divider
-abbrev pub loaded : ℕ → ℕ → Bool → Clocked → Clocked
-loaded operands extra in_slot t = record t {
-  wait = max (max (max t.past.first (if in_slot then 0 else t.past.redirect)) t.past.next) operands - t.ticks;
-  steps = min 33 (t.ticks - max (max (max t.past.first (if in_slot then 0 else t.past.redirect)) t.past.next) operands);
-  extra = extra;
-}
+set i in_slot t = loaded (begins_at t.past i in_slot) (extra_for t.past.pipe i) t

@@ -1,5 +1,5 @@
 -- Results in flight, and words that were fetched.
-use Rattle.std.specs.Prelude.{ℕ, ◌≡◌, ◌<◌, ◌≤◌, ◌==◌, ◌+◌, ◌-◌, ◌&&◌, nat_le, nat_lt, Bool, false, List, [], ◌∷◌, reverse, Option, Some}
+use Rattle.std.specs.Prelude.{ℕ, ◌≡◌, ◌<◌, ◌≤◌, ◌==◌, ◌+◌, ◌-◌, ◌%◌, ◌&&◌, nat_le, nat_lt, Bool, false, List, [], ◌∷◌, reverse, Option, Some}
 use Rattle.std.specs.Option.{option_map}
 use Rattle.std.specs.List.{find}
 use Rattle.core_regs.specs.declared.causes.Order.{Order}
@@ -22,10 +22,13 @@ abbrev pub lands : ℕ → List Flight → Bool
 lands depth [] = false
 lands depth (f ∷ fs) = depth - f.age == 1
 
--- each word that is kept is the word of memory at its address
+-- a word that is kept, at a multiple of four, is the word of memory at its address
+abbrev pub IsWord : List ℕ → Order → Fetched → Type 0
+IsWord m order f = f.addr % 4 ≡ 0 → loaded m Word order f.addr ≡ Some f.word
+
 abbrev pub AreWords : List ℕ → Order → List Fetched → Type 0
 AreWords m order [] = Unit {0}
-AreWords m order (f ∷ fs) = (loaded m Word order f.addr ≡ Some f.word) × AreWords m order fs
+AreWords m order (f ∷ fs) = IsWord m order f × AreWords m order fs
 
 -- an address lies in a word that was fetched
 abbrev pub holds_at : ℕ → Fetched → Bool

@@ -1,57 +1,46 @@
 //! The time of a core with stages: how far they are, and its past.
 
-ghost use Rattle.std.specs.Prelude.{◌≡◌, ℕ, ◌<◌, ◌≤◌, ◌^◌, ◌+◌, ◌-◌, ◌||◌, IfSome, Some, nat_lt, slice_index, true};
+ghost use Rattle.std.specs.Prelude.{◌≡◌, ℕ, ◌<◌, ◌≤◌, ◌^◌, ◌+◌, ◌-◌, IfSome, Some, nat_lt, slice_index, true};
 ghost use Rattle.std.specs.Option.{option_copied};
 ghost use Rattle.mb_decode.specs.Meaning.{NamesRegisters};
 ghost use Rattle.op_table.specs.Kinds.{stores};
 ghost use Rattle.timing_law.specs.Past.{fresh};
 ghost use Rattle.timing_law.specs.Table.{depth_of, first_of};
-ghost use Rattle.pipe_latch.specs.Clocks.{filled, holds, jump_by, loaded, moved, set, stayed, stepped, went};
+ghost use Rattle.pipe_latch.specs.Clocks.{filled, holds, jump_by, left_later, loaded, moved, set, stayed, went};
 
 use isa_step::{Done, Here};
 use mb_decode::Instr;
 use op_table::Kind;
 use prepared_act::{Flow, Prepared};
 use std::marker::Model;
-use timing_law::{Jump, Past, Pipe, is_ahead, operands_at, operands_of};
-
-/// The most steps that the divider does.
-const STEPS: u8 = 33;
+use timing_law::{Jump, Past, Pipe, is_ahead};
 
 /// The slack after an act: more than any instruction waits.
 const SLACK: u8 = 63;
 
-/// The stages of a core, in ticks to come, and its past. What they hold back is the instruction at pc.
+/// The time of a core with stages, in ticks to come, and its past.
 #[derive(Drop)]
 pub struct Clock {
     acts: u64,
     ticks: u64,
     slack: u8,
-    /// In how many ticks the pipeline is full for the first time.
-    start: u8,
-    /// In how many ticks the word at pc is fetched and decoded again after a flush. The word in the slot of a branch was
-    /// fetched with it.
-    refill: u8,
-    /// In how many ticks the stage of execution is free.
-    busy: u8,
-    /// In how many ticks the last operand is ready.
-    operands: u8,
-    /// The steps that the divider did.
-    steps: u8,
-    /// The steps that it takes.
-    extra: u8,
+    /// In how many ticks no stage holds the instruction at pc back: the pipeline is full, the word is decoded again after a
+    /// flush, execution is free, and the last operand is ready.
+    wait: u8,
+    /// The steps that the divider has left to do for it.
+    left: u8,
     /// When each register can be used, among what else is told of the past.
     past: Past,
 }
 
 impl Model for Clock {
-    ghost use Rattle.pipe_latch.specs.Clocks.{Clocked, IsTimed, wait_of};
+    ghost use Rattle.pipe_latch.specs.Clocks.{Clocked, IsTimed};
 
     ghost Value = { Clocked };
 
-    ghost view = { λ c. record { acts = c.acts; ticks = c.ticks; slack = c.slack; wait = wait_of c.start c.refill c.busy c.operands; steps = c.steps; extra = c.extra; past = c.past } };
+    ghost view = { λ c. record { acts = c.acts; ticks = c.ticks; slack = c.slack; wait = c.wait; left = c.left; past = c.past } };
 
-    ghost invariant = { λ c. IsTimed (record { acts = c.acts; ticks = c.ticks; slack = c.slack; wait = wait_of c.start c.refill c.busy c.operands; steps = c.steps; extra = c.extra; past = c.past }) };
+    ghost invariant = { λ c. IsTimed (record { acts = c.acts; ticks = c.ticks; slack = c.slack; wait = c.wait; left = c.left; past = c.past }) };
 }
 
 fn is_store(kind: Kind) -> bool
@@ -75,18 +64,14 @@ fn jump_by(flow: Flow, pc: u32) -> Jump
 impl Clock {
     /// The time of a core before its first tick, which has no instruction to hold back yet.
     pub fn new(pipe: Pipe) -> Clock
-        ensures { result ≡ record { acts = 0; ticks = 0; slack = 63; wait = first_of pipe; steps = 0; extra = 0; past = fresh pipe } }
+        ensures { result ≡ record { acts = 0; ticks = 0; slack = 63; wait = first_of pipe; left = 0; past = fresh pipe } }
     {
         Clock {
             acts: 0,
             ticks: 0,
             slack: SLACK,
-            start: pipe.first(),
-            refill: 0,
-            busy: 0,
-            operands: 0,
-            steps: 0,
-            extra: 0,
+            wait: pipe.first(),
+            left: 0,
             past: Past::new(pipe),
         }
     }
@@ -136,32 +121,23 @@ impl Clock {
         self.past.ready[reg as usize].saturating_sub(self.ticks) as u8
     }
 
-    /// Whether a stage before the divider holds the instruction at pc back: the pipeline fills for the first time or again,
-    /// execution is busy, or an operand is not ready.
-    #[inline(always)]
-    fn waits(&self) -> bool
-        ensures { result ≡ nat_lt 0 self.now.wait }
-    {
-        self.start > 0 || self.refill > 0 || self.busy > 0 || self.operands > 0
-    }
-
     /// Whether the instruction at pc is held back.
     #[inline(always)]
     pub fn holds(&self) -> bool
         ensures { result ≡ holds self.now }
     {
-        self.waits() || self.steps < self.extra
+        self.wait > 0 || self.left > 0
     }
 
-    /// The divider does a step, unless a stage before it holds the instruction back.
+    /// What a tick leaves of the divider's steps: it does one, unless a stage before it holds the instruction back.
     #[inline(always)]
-    fn stepped(&self) -> u8
-        ensures { result ≡ stepped self.now }
+    fn left_later(&self) -> u8
+        ensures { result ≡ left_later self.now }
     {
-        if self.waits() {
-            self.steps
+        if self.wait > 0 {
+            self.left
         } else {
-            (self.steps.saturating_add(1)).min(STEPS)
+            self.left.saturating_sub(1)
         }
     }
 
@@ -170,15 +146,12 @@ impl Clock {
     fn pass(&mut self, slack: u8)
         requires young { self.old.ticks < 2 ^ 62 }
         requires below { slack < 64 }
-        requires covered { self.old.wait - 1 + (self.old.extra - stepped self.old) ≤ slack }
+        requires covered { self.old.wait - 1 + left_later self.old ≤ slack }
         ensures { self.new ≡ record (stayed self.old) { slack = slack } }
     {
-        self.steps = self.stepped();
+        self.left = self.left_later();
         self.slack = slack;
-        self.start = self.start.saturating_sub(1);
-        self.refill = self.refill.saturating_sub(1);
-        self.busy = self.busy.saturating_sub(1);
-        self.operands = self.operands.saturating_sub(1);
+        self.wait = self.wait.saturating_sub(1);
         self.ticks += 1;
     }
 
@@ -236,9 +209,9 @@ impl Clock {
         requires slack { self.old.slack ≡ 63 }
         ensures { self.new ≡ set (option_copied i.entry) in_slot self.old }
     {
-        let operands = operands_at(i, &self.past.ready);
-        let extra = self.past.extra(i) as u8;
-        self.load(operands, extra, in_slot);
+        let begins = self.past.begins(i, in_slot);
+        let extra = self.past.extra(i);
+        self.load(begins, extra);
     }
 
     /// The same of an inner instruction, which is no divide.
@@ -248,25 +221,19 @@ impl Clock {
         requires slack { self.old.slack ≡ 63 }
         ensures { self.new ≡ set (Some word.now.instr) in_slot self.old }
     {
-        let operands = operands_of(&word.instr, is_store(word.kind), &self.past.ready);
-        self.load(operands, 0, in_slot);
+        let begins = self.past.begins_by(&word.instr, is_store(word.kind), in_slot);
+        self.load(begins, 0);
     }
 
-    /// Loads the counters for an instruction whose operands are ready in a tick, and which takes so many steps of the divider.
+    /// Loads the counters for an instruction that may begin in a tick, and of which the divider does so many steps.
     #[inline(always)]
-    fn load(&mut self, operands: u64, extra: u8, in_slot: bool)
-        requires near { operands ≤ self.old.ticks + 30 }
+    fn load(&mut self, begins: u64, extra: u64)
+        requires near { begins ≤ self.old.ticks + 30 }
         requires extra { extra ≤ 33 }
         requires slack { self.old.slack ≡ 63 }
-        ensures { self.new ≡ loaded operands extra in_slot self.old }
+        ensures { self.new ≡ loaded begins extra self.old }
     {
-        let redirect = if in_slot { 0 } else { self.past.redirect };
-        let begins = self.past.first.max(redirect).max(self.past.next).max(operands);
-        self.start = self.past.first.saturating_sub(self.ticks) as u8;
-        self.refill = redirect.saturating_sub(self.ticks) as u8;
-        self.busy = self.past.next.saturating_sub(self.ticks) as u8;
-        self.operands = operands.saturating_sub(self.ticks) as u8;
-        self.extra = extra;
-        self.steps = self.ticks.saturating_sub(begins).min(u64::from(STEPS)) as u8;
+        self.wait = begins.saturating_sub(self.ticks) as u8;
+        self.left = extra.saturating_sub(self.ticks.saturating_sub(begins)) as u8;
     }
 }

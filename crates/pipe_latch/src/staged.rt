@@ -41,7 +41,7 @@ pub struct StagedCore<const STAGES: u8> {
     ghost pipe: { clock.past.pipe ≡ pipe_with STAGES },
     ghost flying: { InFlight 0 (depth_of (pipe_with STAGES)) flights.items.items } by { in_flight_prop 0 (depth_of (pipe_with STAGES)) flights.items.items },
     ghost forwarded: { arch.regs ≡ applied flights.items.items file },
-    ghost fetched: { AreWords memory queue.order queue.items.items } by { words_prop memory queue.order queue.items.items },
+    ghost fetched: { AreWords memory queue.order queue.words } by { words_prop memory queue.order queue.words },
     ghost set: { IsSet clock (instr_of (here_at (bare arch) memory)) (is_some arch.slot) } by { Prim.hlevel props },
     ghost runs: { at_once ≡ true → arch.stopped ≡ None },
     ghost awake: { at_once ≡ true → arch.asleep ≡ false },
@@ -113,7 +113,7 @@ fn meet_other(words: &Words, clock: &mut Clock, a: &Arch, m: &Memory)
 #[inline(always)]
 fn meet(words: &mut Words, clock: &mut Clock, queue: &Queue, a: &Arch, m: &Memory) -> bool
     requires slack { clock.old.slack ≡ 63 }
-    requires words { AreWords m.now queue.now.order queue.now.items.items }
+    requires words { AreWords m.now queue.now.order queue.now.words }
     ensures clock { clock.new ≡ set (instr_of (here_at (bare a.now) m.now)) (is_some a.now.slot) clock.old }
     ensures runs { result ≡ true → a.now.stopped ≡ None }
     ensures awake { result ≡ true → a.now.asleep ≡ false }
@@ -139,7 +139,7 @@ impl<const STAGES: u8> StagedCore<STAGES> {
         requires { HasStages STAGES }
         ensures { staged_state result ≡ made (pipe_with STAGES) 63 arch memory }
     {
-        let queue = Queue::new(arch.order);
+        let queue = Queue::new(arch.order, arch.pc);
         let mut words = Words::new();
         let mut clock = Clock::new(pipe_with(STAGES));
         let at_once = meet(&mut words, &mut clock, &queue, &arch, &memory);

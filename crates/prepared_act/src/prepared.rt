@@ -24,16 +24,16 @@ pub struct Prepared {
     pub is_known: bool,
     pub kind: Kind,
     pub(crate) second: Second,
+    /// Whether the instruction may stand in the slot of a branch.
+    pub(crate) fits_slot: bool,
+    /// The register that an inner act writes, and 0 where it writes none.
+    pub result: u8,
     /// The field of the second operand, as it is used where no prefix is held.
     pub(crate) extended: u32,
     /// The register that the instruction makes late, and 0 where it makes none late.
     pub late: u32,
-    /// The register that an inner act writes, and 0 where it writes none.
-    pub result: u8,
     /// How soon the register that it makes late can be used.
     pub latency: Option<Latency>,
-    /// Whether the instruction may stand in the slot of a branch.
-    pub(crate) fits_slot: bool,
     /// Whether its act asks nothing of the outside, so that it mostly is done at once.
     pub is_inner: bool,
     ghost registers: { NamesRegisters instr },

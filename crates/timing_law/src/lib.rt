@@ -19,5 +19,5 @@ mod tests;
 
 pub use laws::past_is_exact;
 pub use passing::{instr_of, is_ahead, jump_of};
-pub use past::{Past, late_of, operands_at, operands_of};
+pub use past::{Past, late_of, operands_at};
 pub use pipe::{Jump, Pipe};

@@ -1,11 +1,11 @@
 //! The numbers of a core's past.
 
-ghost use Rattle.std.specs.Prelude.{◌≡◌, ◌<◌, ◌≤◌, ◌^◌, IfSome, Some};
+ghost use Rattle.std.specs.Prelude.{◌≡◌, ◌<◌, ◌≤◌, ◌^◌, IfSome, Some, max};
 ghost use Rattle.std.specs.Option.{option_copied};
 ghost use Rattle.isa_step.specs.Wants.{late_at, latency_of};
 ghost use Rattle.op_table.specs.Table.{is_store, kind_of};
 ghost use Rattle.mb_decode.specs.Meaning.{NamesRegisters};
-ghost use Rattle.timing_law.specs.Past.{begins_at, due_at, fresh, marked, operands_at, retired, turned, used};
+ghost use Rattle.timing_law.specs.Past.{begins_at, due_at, fetched_at, fresh, marked, operands_at, retired, turned, used};
 ghost use Rattle.timing_law.specs.Table.{extra_for, late_of};
 
 use crate::pipe::{Jump, Pipe};
@@ -37,7 +37,7 @@ fn used(reads: bool, number: u64) -> u64
 /// The tick from which an instruction can use each register that it reads, by whether it stores.
 #[tactic(auto, unfolding(crate::specs::Past::operands_at))]
 #[inline(always)]
-pub fn operands_of(i: &Instr, stores: bool, ready: &[u64; 32]) -> u64
+fn operands_of(i: &Instr, stores: bool, ready: &[u64; 32]) -> u64
     requires names { NamesRegisters i.now }
     requires store { stores ≡ is_store i.now.op }
     ensures { result ≡ operands_at (Some i.now) ready.now }
@@ -95,16 +95,31 @@ impl Past {
         }
     }
 
+    /// The tick from which an instruction whose operands are ready in a tick may begin.
+    #[inline(always)]
+    fn begins_with(&self, operands: u64, in_slot: bool) -> u64
+        ensures { result ≡ max (max (fetched_at self.now in_slot) self.now.next) operands }
+    {
+        let redirect = if in_slot { 0 } else { self.redirect };
+        self.first.max(redirect).max(self.next).max(operands)
+    }
+
     /// The tick from which an instruction may begin: it acts when its further ticks have passed.
     pub fn begins(&self, i: Option<&Instr>, in_slot: bool) -> u64
         requires { IfSome (option_copied i) NamesRegisters }
         ensures { result ≡ begins_at self.now (option_copied i.entry) in_slot }
     {
-        let redirect = if in_slot { 0 } else { self.redirect };
-        self.first
-            .max(redirect)
-            .max(self.next)
-            .max(operands_at(i, &self.ready))
+        self.begins_with(operands_at(i, &self.ready), in_slot)
+    }
+
+    /// The same of an instruction of which it is known whether it stores.
+    #[inline(always)]
+    pub fn begins_by(&self, i: &Instr, stores: bool, in_slot: bool) -> u64
+        requires names { NamesRegisters i.now }
+        requires store { stores ≡ is_store i.now.op }
+        ensures { result ≡ begins_at self.now (Some i.now) in_slot }
+    {
+        self.begins_with(operands_of(i, stores, &self.ready), in_slot)
     }
 
     /// The tick from which an instruction may act; `None` is an act whose word isn't there or doesn't decode. The word in

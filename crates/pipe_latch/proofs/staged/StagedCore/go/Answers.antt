@@ -45,7 +45,7 @@ meet-self-requires-clause-words g c =
     let now = c.args.self.now in
     let at = at_pc now.words.kept c.at-word.result.now now.arch now.memory c.at-word.ensures (now.kept c.requires.at_once) in
     let left = leaves c.at-word.result.now c.in-Some.flow now.arch c.act_at_once.new.a now.memory c.act_at_once.new.m at.suits c.in-Some.ensures.done c.are_all.ensures in
-    c.fetch-2.ensures.words (subst (λ (m : List ℕ). AreWords m c.follow.new.self.order c.follow.new.self.items.items) (sym left.memory)
+    c.fetch-2.ensures.words (subst (λ (m : List ℕ). AreWords m c.follow.new.self.order c.follow.new.self.words) (sym left.memory)
         (c.follow.ensures.words now.memory now.arch.order left.done left.leads now.fetched))
 
 pub invariant_of-self-2-clause-pipe : goal.invariant_of-self-2-clause-pipe
@@ -74,7 +74,7 @@ invariant_of-self-2-clause-fetched g c =
     let now = c.args.self.now in
     let at = at_pc now.words.kept c.at-word.result.now now.arch now.memory c.at-word.ensures (now.kept c.requires.at_once) in
     let left = leaves c.at-word.result.now c.in-Some.flow now.arch c.act_at_once.new.a now.memory c.act_at_once.new.m at.suits c.in-Some.ensures.done c.are_all.ensures in
-    c.fetch-2.ensures.words (subst (λ (m : List ℕ). AreWords m c.follow.new.self.order c.follow.new.self.items.items) (sym left.memory)
+    c.fetch-2.ensures.words (subst (λ (m : List ℕ). AreWords m c.follow.new.self.order c.follow.new.self.words) (sym left.memory)
         (c.follow.ensures.words now.memory now.arch.order left.done left.leads now.fetched))
 
 pub invariant_of-self-2-clause-set : goal.invariant_of-self-2-clause-set

@@ -60,7 +60,7 @@ returns-then-fills g c =
 pub meet-self-requires-clause-words : goal.meet-self-requires-clause-words
 meet-self-requires-clause-words g c =
     let now = c.args.self.now in
-    c.fetch-in-Did.ensures.words (subst (λ (m : List ℕ). AreWords m c.follow.new.self.order c.follow.new.self.items.items)
+    c.fetch-in-Did.ensures.words (subst (λ (m : List ℕ). AreWords m c.follow.new.self.order c.follow.new.self.words)
         (sym (did_stores g.P.Ports.done g.P.Ports.spare g.P.Ports.leaves _ c.in-Did.done now.arch c.act.new.a now.memory c.act.new.m c.args.ports.now c.act.new.p c.in-Did.ensures.performs.does))
         (c.follow.ensures.words now.memory now.arch.order c.in-Did.done c.flow_of.ensures now.fetched))
 
@@ -88,7 +88,7 @@ invariant_of-self-in-Did-clause-forwarded g c =
 pub invariant_of-self-in-Did-clause-fetched : goal.invariant_of-self-in-Did-clause-fetched
 invariant_of-self-in-Did-clause-fetched g c =
     let now = c.args.self.now in
-    c.fetch-in-Did.ensures.words (subst (λ (m : List ℕ). AreWords m c.follow.new.self.order c.follow.new.self.items.items)
+    c.fetch-in-Did.ensures.words (subst (λ (m : List ℕ). AreWords m c.follow.new.self.order c.follow.new.self.words)
         (sym (did_stores g.P.Ports.done g.P.Ports.spare g.P.Ports.leaves _ c.in-Did.done now.arch c.act.new.a now.memory c.act.new.m c.args.ports.now c.act.new.p c.in-Did.ensures.performs.does))
         (c.follow.ensures.words now.memory now.arch.order c.in-Did.done c.flow_of.ensures now.fetched))
 
@@ -130,7 +130,7 @@ pub invariant_of-self-in-Idle-clause-fetched : goal.invariant_of-self-in-Idle-cl
 invariant_of-self-in-Idle-clause-fetched g c =
     let now = c.args.self.now in
     let keeps = rests_keep g.P.Ports.done g.P.Ports.spare g.P.Ports.leaves _ c.in-Idle.idle now.arch c.act.new.a now.memory c.act.new.m c.args.ports.now c.act.new.p c.in-Idle.ensures.performs.does in
-    c.fetch-in-Idle.ensures.words (subst (λ (m : List ℕ). AreWords m now.queue.order now.queue.items.items) (sym keeps.memory) now.fetched)
+    c.fetch-in-Idle.ensures.words (subst (λ (m : List ℕ). AreWords m now.queue.order now.queue.words) (sym keeps.memory) now.fetched)
 
 pub invariant_of-self-in-Idle-clause-set : goal.invariant_of-self-in-Idle-clause-set
 invariant_of-self-in-Idle-clause-set g c =
