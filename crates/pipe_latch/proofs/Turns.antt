@@ -1,5 +1,5 @@
 -- What a tick of a core with stages leaves.
-use Rattle.std.proofs.Common.{ℕ, ◌≡◌, ◌<◌, ◌++◌, ◌&&◌, Bool, true, false, List, Option, Some, None, IfSome, refl, sym, ap, subst, ◌∙◌}
+use Rattle.std.proofs.Common.{ℕ, ◌≡◌, ◌<◌, ◌++◌, ◌&&◌, Bool, true, false, List, Option, Some, None, IfSome, refl, sym, ap, subst, ◌∙◌, arith}
 use Rattle.std.specs.Prelude.{is_some}
 use Rattle.core_regs.specs.declared.registers.Arch.{Arch}
 use Rattle.core_regs.specs.declared.registers.Write.{Write}
@@ -11,11 +11,12 @@ use Rattle.timing_law.specs.Table.{depth_of}
 use Rattle.core_iface.specs.declared.Flight.{Flight}
 use Rattle.core_iface.specs.Flights.{applied, begun, file_aged, flights_aged}
 use Rattle.pipe_latch.specs.Clocks.{Clocked, IsSet, filled, set, stayed}
-use Rattle.pipe_latch.specs.Latches.{InFlight}
+use Rattle.pipe_latch.specs.Latches.{InFlight, InStages, flown}
 use Rattle.pipe_latch.specs.Stages.{pipe_with}
+use Rattle.pipe_latch.specs.declared.in_flight.Stage.{Stage}
 use Rattle.pipe_latch.proofs.ClockLemmas.{begins_set, fills_set, stays_set}
 use Rattle.pipe_latch.proofs.Depths.{at_depth, deep}
-use Rattle.pipe_latch.proofs.FlightLemmas.{aged_applied, registers_after}
+use Rattle.pipe_latch.proofs.FlightLemmas.{aged_applied, registers_after, stages_fly}
 use Rattle.pipe_latch.proofs.StagedTurns.{Ages}
 
 pub filled_set : (t u : Clocked) (i : Option Instr) (s : Bool) → u ≡ filled t → IsSet t i s → IsSet u i s
@@ -53,12 +54,12 @@ pub ages_of : (n d : ℕ) (fl fs : List Flight) (file later : List ℕ) (t : Clo
     → fs ≡ flights_aged d fl → later ≡ file_aged d fl file → Ages file later fl fs d t
 ages_of n d fl fs file later t is pipe flights landed = record { flights = flights; file = landed; depth = sym is; deep = deep n d (is ∙ ap depth_of pipe) }
 
-pub flies_on : (n d : ℕ) (fs : List Flight) (t : Clocked) → d ≡ depth_of t.past.pipe → t.past.pipe ≡ pipe_with n → InFlight 1 d fs → InFlight 1 (depth_of (pipe_with n)) fs
-flies_on n d fs t is pipe h = at_depth 1 _ d fs (sym (is ∙ ap depth_of pipe)) h
+-- the stages that hold them, by the depth as the clock tells it
+pub stages_now : (n d : ℕ) (ss : List Stage) (t : Clocked) → d ≡ depth_of t.past.pipe → t.past.pipe ≡ pipe_with n → InStages (depth_of (pipe_with n)) 0 ss → InStages d 0 ss
+stages_now n d ss t is pipe h = at_depth d _ ss (is ∙ ap depth_of pipe) h
 
-pub flies : (n d : ℕ) (fl : List Flight) (t : Clocked) → d ≡ depth_of t.past.pipe → t.past.pipe ≡ pipe_with n → InFlight 0 (depth_of (pipe_with n)) fl → InFlight 0 d fl
-flies n d fl t is pipe h = at_depth 0 d _ fl (is ∙ ap depth_of pipe) h
+pub stages_later : (n d : ℕ) (ss : List Stage) (t : Clocked) → d ≡ depth_of t.past.pipe → t.past.pipe ≡ pipe_with n → InStages d 0 ss → InStages (depth_of (pipe_with n)) 0 ss
+stages_later n d ss t is pipe h = at_depth _ d ss (sym (is ∙ ap depth_of pipe)) h
 
-pub names_of : (w : Option Write) → IfSome w (λ w. w.reg < 32) → (v : Write) → w ≡ Some v → v.reg < 32
-names_of None h v is = cc
-names_of (Some u) h v is = subst (λ (o : Option Write). IfSome o (λ w. w.reg < 32)) is h
+pub flies : (n d : ℕ) (ss : List Stage) (t : Clocked) → d ≡ depth_of t.past.pipe → t.past.pipe ≡ pipe_with n → InStages (depth_of (pipe_with n)) 0 ss → InFlight 0 d (flown 0 ss)
+flies n d ss t is pipe h = stages_fly d 0 ss (stages_now n d ss t is pipe h) (omega arith)

@@ -10,9 +10,9 @@ ghost use Rattle.core_iface.specs.Flights.{applied};
 ghost use Rattle.core_iface.specs.Ticks.{is_pending};
 ghost use Rattle.core_iface.specs.Words.{IsKept, goes_on};
 ghost use Rattle.pipe_latch.specs.Clocks.{IsSet, set};
-ghost use Rattle.pipe_latch.specs.Latches.{AreWords, InFlight};
+ghost use Rattle.pipe_latch.specs.Latches.{AreWords, InStages, flown};
 ghost use Rattle.pipe_latch.specs.Stages.{HasStages, pipe_with};
-ghost use Rattle.pipe_latch.specs.Props.{in_flight_prop, words_prop};
+ghost use Rattle.pipe_latch.specs.Props.{stages_prop, words_prop};
 ghost use Rattle.std.proofs.Props.{props};
 
 use crate::{Clock, Flights, Queue};
@@ -39,8 +39,8 @@ pub struct StagedCore<const STAGES: u8> {
     at_once: bool,
     ghost stages: { HasStages STAGES },
     ghost pipe: { clock.past.pipe ≡ pipe_with STAGES },
-    ghost flying: { InFlight 0 (depth_of (pipe_with STAGES)) flights.items.items } by { in_flight_prop 0 (depth_of (pipe_with STAGES)) flights.items.items },
-    ghost forwarded: { arch.regs ≡ applied flights.items.items file },
+    ghost flying: { InStages (depth_of (pipe_with STAGES)) 0 flights.stages } by { stages_prop (depth_of (pipe_with STAGES)) 0 flights.stages },
+    ghost forwarded: { arch.regs ≡ applied (flown 0 flights.stages) file },
     ghost fetched: { AreWords memory queue.order queue.words } by { words_prop memory queue.order queue.words },
     ghost set: { IsSet clock (instr_of (here_at (bare arch) memory)) (is_some arch.slot) } by { Prim.hlevel props },
     ghost runs: { at_once ≡ true → arch.stopped ≡ None },
@@ -272,7 +272,7 @@ impl<const STAGES: u8> Core for StagedCore<STAGES> {
     }
 
     fn flight(&self, k: usize) -> Option<Flight> {
-        self.flights.items.get(k).copied()
+        self.flights.flight(k)
     }
 
     fn settle(&self, reg: u8) -> u8 {

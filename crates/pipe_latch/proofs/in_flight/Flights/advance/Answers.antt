@@ -1,11 +1,13 @@
-use Rattle.std.proofs.Common.{◌∙◌}
-use Rattle.pipe_latch.proofs.FlightLemmas.{aged_flights, still_room}
+use Rattle.std.proofs.Common.{ℕ, ◌≡◌, ◌+◌, ◌-◌, ◌≤◌, arith, subst}
+use Rattle.pipe_latch.specs.Latches.{InStages}
+use Rattle.pipe_latch.proofs.FlightLemmas.{stages_within}
 use Rattle.pipe_latch.proofs.in_flight.Flights.advance.Goals as goal
 
-pub returns-clause-ages : goal.returns-clause-ages
-returns-clause-ages c = aged_flights c.args.depth c.args.self.now.items.items c.grow_older.new.self.items.items (c.grow_older.ensures ∙ c.land.ensures.flights) c.requires.ages c.requires.depth.0
+last_of : (d : ℕ) → 1 ≤ d → d - 1 + 1 ≡ d
+last_of d le = omega (arith, le)
 
-pub returns-clause-room : goal.returns-clause-room
-returns-clause-room c =
-    let ages = aged_flights c.args.depth c.args.self.now.items.items c.grow_older.new.self.items.items (c.grow_older.ensures ∙ c.land.ensures.flights) c.requires.ages c.requires.depth.0 in
-    still_room c.args.depth c.grow_older.new.self.items.items ages c.requires.depth.1
+pub shift-requires : goal.shift-requires
+shift-requires c = stages_within (c.args.depth - 1) 4 0 c.land.new.self.stages c.land.ensures.stages (omega (arith, c.requires.depth.1))
+
+pub returns-clause-stages : goal.returns-clause-stages
+returns-clause-stages c = subst (λ d. InStages d 0 c.shift.new.self.stages) (last_of c.args.depth c.requires.depth.0) (c.shift.ensures.stages (c.args.depth - 1) c.land.ensures.stages)
