@@ -72,7 +72,7 @@ acted_of dep w flow a b m n fl fs gs file later d t deed h ages begin meant =
     let in_depth : ℕ → CoreState = λ deep. in_either deep (deep == 0) in
     let pc : b.pc ≡ deed.arch.pc = ap (λ (v : View). v.arch.pc) h.view in
     let past : retired w.instr t.ticks (jump_by flow b.pc) t.past ≡ past_after (here_at (bare a) m) deed.done deed.arch.pc t.ticks t.past =
-        past_so (here_at (bare a) m) w.instr deed.done flow b.pc t.ticks t.past h.retired meant h.leads ∙ ap (λ k. past_after (here_at (bare a) m) deed.done k t.ticks t.past) pc in
+    past_so (here_at (bare a) m) w.instr deed.done flow b.pc t.ticks t.past h.retired meant h.leads ∙ ap (λ k. past_after (here_at (bare a) m) deed.done k t.ticks t.past) pc in
     let first : staged b later n gs (went w.instr flow b.pc t) ≡ in_either d false = λ k. record {
       view = h.view k;
       acts = t.acts + 1;
@@ -113,8 +113,8 @@ staged_acts_alone w flow a b m n fl fs gs file later d i in_slot t u v at h long
           let due_here : Option Here → Due = λ x. due_with x (operands_of x a.regs) (bare a) m s in
           let done : RetiresDue (due_here (Some (record { word = w.word; instr = Some w.instr }))) flow (view_of a m) (view_of b n) = subst (λ (x : Option Here). RetiresDue (due_here x) flow (view_of a m) (view_of b n)) means (h.does s calm) in
           let wrote : (deed : Deed) → due_here (here_at (bare a) m) ≡ Does deed → gs ≡ fs ++ begun deed.done.write = λ deed is.
-              begin ∙ ap (λ x. fs ++ begun x) (sym (inner_writes w.instr w.word a b m n flow s deed w.result inner calm done (sym (ap due_here here) ∙ is)
-              (w.result_met ∙ ap (λ k. result_register k w.instr.rd) w.kind_met) (subst (λ k. w.result < k) (sym long) w.result_named))) in
+          begin ∙ ap (λ x. fs ++ begun x) (sym (inner_writes w.instr w.word a b m n flow s deed w.result inner calm done (sym (ap due_here here) ∙ is)
+          (w.result_met ∙ ap (λ k. result_register k w.instr.rd) w.kind_met) (subst (λ k. w.result < k) (sym long) w.result_named))) in
           subst (λ early. ticks.AloneOf (due_here (here_at (bare a) m)) early (staged a file m fl t) (staged b later n gs (went w.instr flow b.pc t)))
           (sym held ∙ holds_early a m file fl t is_set)
           (alone_of (due_here (here_at (bare a) m)) w flow a b m n fl fs gs file later d t

@@ -62,5 +62,5 @@ leaves w flow a b m n suits h long =
     left_by (due_here (Some (record { word = w.word; instr = Some w.instr }))) w flow a b m n
     (subst (λ (x : Option Here). RetiresDue (due_here x) flow (view_of a m) (view_of b n)) (known w a suits) (h.does calm refl))
     (λ deed is. inner_writes w.instr w.word a b m n flow calm deed w.result (w.inner suits.inner) refl
-        (subst (λ (x : Option Here). RetiresDue (due_here x) flow (view_of a m) (view_of b n)) (known w a suits) (h.does calm refl)) is
-        (w.result_met ∙ ap (λ k. result_register k w.instr.rd) w.kind_met) (subst (λ k. w.result < k) (sym long) w.result_named))
+    (subst (λ (x : Option Here). RetiresDue (due_here x) flow (view_of a m) (view_of b n)) (known w a suits) (h.does calm refl)) is
+    (w.result_met ∙ ap (λ k. result_register k w.instr.rd) w.kind_met) (subst (λ k. w.result < k) (sym long) w.result_named))

@@ -57,7 +57,11 @@ fn jump_by(flow: Flow, pc: u32) -> Jump
     match flow {
         Flow::On => Jump::On,
         Flow::Jumped => Jump::Taken,
-        Flow::Stored(addr) => if is_ahead(addr, pc) { Jump::Struck } else { Jump::On },
+        Flow::Stored(addr) => if is_ahead(addr, pc) {
+            Jump::Struck
+        } else {
+            Jump::On
+        },
     }
 }
 
@@ -195,8 +199,13 @@ impl Clock {
         requires young { self.old.ticks < 2 ^ 62 }
         ensures { self.new ≡ went word.now.instr flow pc self.old }
     {
-        self.past
-            .retired_as(&word.instr, word.kind, word.latency, self.ticks, jump_by(flow, pc));
+        self.past.retired_as(
+            &word.instr,
+            word.kind,
+            word.latency,
+            self.ticks,
+            jump_by(flow, pc),
+        );
         self.acts += 1;
         self.ticks += 1;
         self.slack = SLACK;
@@ -221,7 +230,9 @@ impl Clock {
         requires slack { self.old.slack ≡ 63 }
         ensures { self.new ≡ set (Some word.now.instr) in_slot self.old }
     {
-        let begins = self.past.begins_by(&word.instr, is_store(word.kind), in_slot);
+        let begins = self
+            .past
+            .begins_by(&word.instr, is_store(word.kind), in_slot);
         self.load(begins, 0);
     }
 

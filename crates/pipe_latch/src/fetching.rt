@@ -25,7 +25,7 @@ pub struct Fetched {
 }
 
 /// No word: none has such an address.
-const NOTHING: Fetched = Fetched {
+pub(crate) const NOTHING: Fetched = Fetched {
     addr: u32::MAX,
     word: 0,
 };
@@ -39,7 +39,7 @@ pub struct Queue {
     /// The words, each at the place that its address has in a group of four.
     pub words: [Fetched; 4],
     /// The address of the next word to fetch.
-    next: u32,
+    pub(crate) next: u32,
     /// The order of bytes in which they were read.
     pub order: Order,
 }

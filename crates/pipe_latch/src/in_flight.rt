@@ -17,13 +17,13 @@ use isa_step::{Here, Operands};
 /// A stage behind execution, and the result that it holds, if it holds one.
 #[derive(Clone, Copy)]
 pub struct Stage {
-    is_full: bool,
-    reg: u8,
-    value: u32,
+    pub(crate) is_full: bool,
+    pub(crate) reg: u8,
+    pub(crate) value: u32,
 }
 
 /// A stage that holds no result.
-const EMPTY: Stage = Stage {
+pub(crate) const EMPTY: Stage = Stage {
     is_full: false,
     reg: 0,
     value: 0,
@@ -36,7 +36,7 @@ const STAGES: usize = 5;
 #[derive(Drop)]
 pub struct Flights {
     /// The stages that a result passes, each in a tick.
-    stages: [Stage; STAGES],
+    pub(crate) stages: [Stage; STAGES],
 }
 
 /// Adds the result of a stage to a list.

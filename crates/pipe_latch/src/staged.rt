@@ -211,13 +211,7 @@ impl<const STAGES: u8> Core for StagedCore<STAGES> {
             return Tick::Filling;
         }
         let pc = self.arch.pc;
-        match act(
-            &here,
-            &operands,
-            &mut self.arch,
-            &mut self.memory,
-            ports,
-        ) {
+        match act(&here, &operands, &mut self.arch, &mut self.memory, ports) {
             Outcome::Did(done) => {
                 self.arch.write_back(done.write);
                 self.flights.begin(done.write);
@@ -291,7 +285,11 @@ impl<const STAGES: u8> Core for StagedCore<STAGES> {
         if self.at_once {
             return None;
         }
-        idle_at(&self.arch, &self.words.here_at(&self.arch, &self.memory), ports)
+        idle_at(
+            &self.arch,
+            &self.words.here_at(&self.arch, &self.memory),
+            ports,
+        )
     }
 
     ghost split = { λ c. sym c.forwarded };

@@ -11,7 +11,9 @@ use core_regs::Arch;
 use isa_step::{END_WORD, Here};
 use mb_decode::{Instr, decode};
 use mb_word::sign16;
-use op_table::{Kind, Latency, Op, Return, Second, belongs_into_slot, kind_of, latency_of, second_of};
+use op_table::{
+    Kind, Latency, Op, Return, Second, belongs_into_slot, kind_of, latency_of, second_of,
+};
 
 /// A word, and what of its act can be told before its operands are known: 32 bytes, so that its place in a table is found
 /// by a shift.

@@ -10,8 +10,8 @@ ghost use Rattle.timing_law.specs.Table.{extra_for, late_of};
 
 use crate::pipe::{Jump, Pipe};
 use isa_step::{Kind, Late, Latency, kind_of, latency_of};
-use op_table::is_store;
 use mb_decode::Instr;
+use op_table::is_store;
 
 /// What times the next act of a core, in ticks of the core from 0 on.
 #[derive(Clone, Copy, Debug, PartialEq, Eq)]
@@ -155,7 +155,14 @@ impl Past {
 
     /// The same of an instruction whose kind and latency are known.
     #[inline(always)]
-    pub fn retired_as(&mut self, i: &Instr, kind: Kind, latency: Option<Latency>, at: u64, jump: Jump)
+    pub fn retired_as(
+        &mut self,
+        i: &Instr,
+        kind: Kind,
+        latency: Option<Latency>,
+        at: u64,
+        jump: Jump,
+    )
         requires names { NamesRegisters i.now }
         requires kind { kind ≡ kind_of i.now.op }
         requires latency { latency ≡ latency_of (kind_of i.now.op) }

@@ -46,7 +46,7 @@ meet-self-requires-clause-words g c =
     let at = at_pc now.words.kept c.at-word.result.now now.arch now.memory c.at-word.ensures (now.kept c.requires.at_once) in
     let left = leaves c.at-word.result.now c.in-Some.flow now.arch c.act_at_once.new.a now.memory c.act_at_once.new.m at.suits c.in-Some.ensures.done c.are_all.ensures in
     c.fetch-2.ensures.words (subst (λ (m : List ℕ). AreWords m c.follow.new.self.order c.follow.new.self.words) (sym left.memory)
-        (c.follow.ensures.words now.memory now.arch.order left.done left.leads now.fetched))
+    (c.follow.ensures.words now.memory now.arch.order left.done left.leads now.fetched))
 
 pub invariant_of-self-2-clause-pipe : goal.invariant_of-self-2-clause-pipe
 invariant_of-self-2-clause-pipe g c =
@@ -72,7 +72,7 @@ invariant_of-self-2-clause-fetched g c =
     let at = at_pc now.words.kept c.at-word.result.now now.arch now.memory c.at-word.ensures (now.kept c.requires.at_once) in
     let left = leaves c.at-word.result.now c.in-Some.flow now.arch c.act_at_once.new.a now.memory c.act_at_once.new.m at.suits c.in-Some.ensures.done c.are_all.ensures in
     c.fetch-2.ensures.words (subst (λ (m : List ℕ). AreWords m c.follow.new.self.order c.follow.new.self.words) (sym left.memory)
-        (c.follow.ensures.words now.memory now.arch.order left.done left.leads now.fetched))
+    (c.follow.ensures.words now.memory now.arch.order left.done left.leads now.fetched))
 
 pub invariant_of-self-2-clause-set : goal.invariant_of-self-2-clause-set
 invariant_of-self-2-clause-set g c = begun_set c.retire.new.self c.meet-self.new.clock _ _ c.meet-self.ensures.clock

@@ -60,8 +60,8 @@ pub meet-self-requires-clause-words : goal.meet-self-requires-clause-words
 meet-self-requires-clause-words g c =
     let now = c.args.self.now in
     c.fetch-in-Did.ensures.words (subst (λ (m : List ℕ). AreWords m c.follow.new.self.order c.follow.new.self.words)
-        (sym (did_stores g.P.Ports.done g.P.Ports.spare g.P.Ports.leaves _ c.in-Did.done now.arch c.act.new.a now.memory c.act.new.m c.args.ports.now c.act.new.p c.in-Did.ensures.performs.does))
-        (c.follow.ensures.words now.memory now.arch.order c.in-Did.done c.flow_of.ensures now.fetched))
+    (sym (did_stores g.P.Ports.done g.P.Ports.spare g.P.Ports.leaves _ c.in-Did.done now.arch c.act.new.a now.memory c.act.new.m c.args.ports.now c.act.new.p c.in-Did.ensures.performs.does))
+    (c.follow.ensures.words now.memory now.arch.order c.in-Did.done c.flow_of.ensures now.fetched))
 
 pub invariant_of-self-in-Did-clause-pipe : goal.invariant_of-self-in-Did-clause-pipe
 invariant_of-self-in-Did-clause-pipe g c =
@@ -85,8 +85,8 @@ pub invariant_of-self-in-Did-clause-fetched : goal.invariant_of-self-in-Did-clau
 invariant_of-self-in-Did-clause-fetched g c =
     let now = c.args.self.now in
     c.fetch-in-Did.ensures.words (subst (λ (m : List ℕ). AreWords m c.follow.new.self.order c.follow.new.self.words)
-        (sym (did_stores g.P.Ports.done g.P.Ports.spare g.P.Ports.leaves _ c.in-Did.done now.arch c.act.new.a now.memory c.act.new.m c.args.ports.now c.act.new.p c.in-Did.ensures.performs.does))
-        (c.follow.ensures.words now.memory now.arch.order c.in-Did.done c.flow_of.ensures now.fetched))
+    (sym (did_stores g.P.Ports.done g.P.Ports.spare g.P.Ports.leaves _ c.in-Did.done now.arch c.act.new.a now.memory c.act.new.m c.args.ports.now c.act.new.p c.in-Did.ensures.performs.does))
+    (c.follow.ensures.words now.memory now.arch.order c.in-Did.done c.flow_of.ensures now.fetched))
 
 pub invariant_of-self-in-Did-clause-set : goal.invariant_of-self-in-Did-clause-set
 invariant_of-self-in-Did-clause-set g c = begun_set c.act-in-Did.new.self c.meet-self.new.clock _ _ c.meet-self.ensures.clock
@@ -98,7 +98,7 @@ returns-in-Did g c =
     (flown 0 now.flights.stages) (flown 0 c.advance.new.self.stages) (flown 0 c.begin.new.self.stages) now.file c.advance.new.file c.depth-depth.result _ _
     now.clock c.act-in-Did.new.self c.meet-self.new.clock c.args.ports.now c.act.new.p
     (as_due (g.P.Sees.shows c.args.ports.now) now.arch.regs c.act.ensures.performs c.here_at-here.ensures.here
-        (c.operands-operands.ensures ∙ ap (λ regs. operands_of c.here_at-here.result regs) (sym now.forwarded)) c.in-Did.is)
+    (c.operands-operands.ensures ∙ ap (λ regs. operands_of c.here_at-here.result regs) (sym now.forwarded)) c.in-Did.is)
     c.write_back.ensures
     (ages_of g.row.STAGES c.depth-depth.result (flown 0 now.flights.stages) (flown 0 c.advance.new.self.stages) now.file c.advance.new.file now.clock c.depth-depth.ensures now.pipe c.advance.ensures.flights c.advance.ensures.file)
     (record { met = c.here_at-here.ensures.here; set = now.set; fills_is = c.fills-fills.ensures ∙ ap (λ b. b && is_pending c.here_at-here.result (bare now.arch) (g.P.Sees.shows c.args.ports.now)) c.holds.ensures })
@@ -140,7 +140,7 @@ returns-in-Idle g c =
     staged_rests g.P.Ports.done g.P.Ports.spare g.P.Ports.leaves g.P.Sees.shows c.here_at-here.result c.fills-fills.result c.in-Idle.idle c.rest_of.result now.arch c.act.new.a now.memory c.act.new.m
     (flown 0 now.flights.stages) (flown 0 c.advance.new.self.stages) now.file c.advance.new.file c.depth-depth.result now.clock c.stay.new.self c.args.ports.now c.act.new.p
     (as_due (g.P.Sees.shows c.args.ports.now) now.arch.regs c.act.ensures.performs c.here_at-here.ensures.here
-        (c.operands-operands.ensures ∙ ap (λ regs. operands_of c.here_at-here.result regs) (sym now.forwarded)) c.in-Idle.is)
+    (c.operands-operands.ensures ∙ ap (λ regs. operands_of c.here_at-here.result regs) (sym now.forwarded)) c.in-Idle.is)
     (ages_of g.row.STAGES c.depth-depth.result (flown 0 now.flights.stages) (flown 0 c.advance.new.self.stages) now.file c.advance.new.file now.clock c.depth-depth.ensures now.pipe c.advance.ensures.flights c.advance.ensures.file)
     (record { met = c.here_at-here.ensures.here; set = now.set; fills_is = c.fills-fills.ensures ∙ ap (λ b. b && is_pending c.here_at-here.result (bare now.arch) (g.P.Sees.shows c.args.ports.now)) c.holds.ensures })
     c.if-fills.false c.rest_of.ensures c.stay.ensures
