@@ -4,8 +4,9 @@
 #[cfg(test)]
 mod tests;
 
-ghost use Rattle.std.specs.Prelude.{◌≡◌};
+ghost use Rattle.std.specs.Prelude.{◌≡◌, ◌<◌, ◌^◌, true, false};
 ghost use Rattle.core_iface.specs.Cores.{made};
+ghost use Rattle.core_iface.specs.Ticks.{TicksAlone};
 ghost use Rattle.any_core.specs.Any.{slack_of};
 
 use byte_mem::Memory;
@@ -40,13 +41,28 @@ impl AnyCore {
             Pipe::Eight => AnyCore::Eight(EightCore::new(memory, arch)),
         }
     }
+
+    /// What a core with stages does at once: a function of its own, so that a plain core needs no table of jumps.
+    #[inline(never)]
+    fn tick_staged(&mut self) -> bool
+        requires young { (any_state self.old).ticks < 2 ^ 62 }
+        ensures done { result ≡ true → TicksAlone (any_state self.old) (any_state self.new) }
+        ensures kept { result ≡ false → any_state self.new ≡ any_state self.old }
+    {
+        match self {
+            AnyCore::Plain(_) => false,
+            AnyCore::Three(core) => core.tick_at_once(),
+            AnyCore::Five(core) => core.tick_at_once(),
+            AnyCore::Eight(core) => core.tick_at_once(),
+        }
+    }
 }
 
 impl Core for AnyCore {
     ghost use Rattle.any_core.specs.States.{any_state};
     ghost use Rattle.any_core.specs.declared.AnyCore.TheVariants.{Plain, Three, Five, Eight};
     ghost use Rattle.core_iface.specs.Cores.{IsSplit};
-    ghost use Rattle.std.specs.Prelude.{refl};
+    ghost use Rattle.std.proofs.Common.{refl, sym};
 
     ghost state = { any_state };
 
@@ -61,12 +77,10 @@ impl Core for AnyCore {
 
     #[inline(always)]
     fn tick_at_once(&mut self) -> bool {
-        match self {
-            AnyCore::Plain(core) => core.tick_at_once(),
-            AnyCore::Three(core) => core.tick_at_once(),
-            AnyCore::Five(core) => core.tick_at_once(),
-            AnyCore::Eight(core) => core.tick_at_once(),
+        if let AnyCore::Plain(core) = self {
+            return core.tick_at_once();
         }
+        self.tick_staged()
     }
 
     fn arch(&self) -> Arch {
@@ -168,5 +182,5 @@ impl Core for AnyCore {
         }
     }
 
-    ghost split = { λ core. elim core as (λ c. IsSplit (any_state c)) [ Plain c ↦ refl | Three c ↦ refl | Five c ↦ refl | Eight c ↦ refl ] };
+    ghost split = { λ core. elim core as (λ c. IsSplit (any_state c)) [ Plain c ↦ refl | Three c ↦ sym c.forwarded | Five c ↦ sym c.forwarded | Eight c ↦ sym c.forwarded ] };
 }

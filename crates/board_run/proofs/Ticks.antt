@@ -13,7 +13,7 @@ use Rattle.isa_step.specs.Resting.{IsHoped, idle_due, idle_view}
 use Rattle.isa_step.proofs.RestLaws.{idle_lasts}
 use Rattle.core_iface.specs.declared.Tick.{Tick}
 use Rattle.core_iface.specs.declared.Tick.TheVariants.{Acted, Filling, Waiting, Sleeping, Ended, Stopped}
-use Rattle.core_iface.specs.Cores.{CoreState, is_held}
+use Rattle.core_iface.specs.Cores.{CoreState, is_early, is_held}
 use Rattle.core_iface.specs.Ticks.{AloneOf, Ticks, TicksAlone, TickOf, is_view_quiet}
 use Rattle.prepared_act.specs.Retiring.{is_offered}
 use Rattle.board_machine.proofs.Lines.{act_line, some_lines, waited_by}
@@ -274,21 +274,22 @@ answer_of done spare leaves (Stops cause) held quiet (Stopped why) old p new q h
 pub tick_says : {P : Type 0} {done : P → List Action} {spare : P → ℕ} {leaves : P → Action → P → Type 0} {shown : Shown} {answer : Tick} {old new : CoreState} {p q : P} → Ticks done spare leaves shown answer old p new q → AnswerOf (due old.view shown) (is_view_quiet old.view shown) answer (core_of old) (core_of new)
 tick_says {done = done} {spare = spare} {leaves = leaves} {shown = shown} {answer = answer} {old = old} {new = new} {p = p} {q = q} h = answer_of done spare leaves (due old.view shown) (is_held old shown) (is_view_quiet old.view shown) answer old p new q h.does
 
--- an act that is done at once is a tick of the board machine, and leaves the fabric
-alone_of : (core : ℕ) (d : Due) (old new : CoreState) (f : Fabric) → AloneOf d old new → TickMay core d (core_of old) f (core_of new) f
-alone_of core (Does deed) old new f h = inl (record {
-  slack = h.3;
-  state = ap core_of h.4;
+-- what is done at once is a tick of the board machine, and leaves the fabric
+alone_of : (core : ℕ) (d : Due) (early : Bool) (old new : CoreState) (f : Fabric) → AloneOf d early old new → TickMay core d (core_of old) f (core_of new) f
+alone_of core (Does deed) false old new f h = inl (record {
+  slack = h.2;
+  state = ap core_of h.3;
   fabric = sym (ap (λ (a : Act). entered_some core old.acts (entry_of_act a) (entered_some core old.acts (entries_of_action deed.action) f)) h.1
       ∙ ap (λ (o : Option Action). entered_some core old.acts (entries_of_action o) f) h.0);
 })
-alone_of core (Waits port full) old new f h = absurd h
-alone_of core Sleeps old new f h = absurd h
-alone_of core Ends old new f h = absurd h
-alone_of core (Stops cause) old new f h = absurd h
+alone_of core (Does deed) true old new f h = inr (record { slack = h.0; state = ap core_of h.1; fabric = refl })
+alone_of core (Waits port full) early old new f h = absurd h
+alone_of core Sleeps early old new f h = absurd h
+alone_of core Ends early old new f h = absurd h
+alone_of core (Stops cause) early old new f h = absurd h
 
 pub alone_may : {old new : CoreState} (core : ℕ) (s : Shown) (f : Fabric) → TicksAlone old new → is_offered s ≡ false → TickMay core (due old.view s) (core_of old) f (core_of new) f
-alone_may {old = old} {new = new} core s f h calm = alone_of core (due old.view s) old new f (h.does s calm)
+alone_may {old = old} {new = new} core s f h calm = alone_of core (due old.view s) (is_early old) old new f (h.does s calm)
 
 -- and the core is busy there
 
@@ -296,12 +297,12 @@ not_idle : (v : View) (s : Shown) (o : Option Idle) → IsHoped s → idle_due (
 not_idle v s None h n e = refl
 not_idle v s (Some why) h n e = let z : Some why ≡ None = sym (idle_lasts v s why h e) ∙ n in cc
 
-alone_busy : (d : Due) (old new : CoreState) → AloneOf d old new → idle_due d ≡ None
-alone_busy (Does deed) old new h = refl
-alone_busy (Waits port full) old new h = absurd h
-alone_busy Sleeps old new h = absurd h
-alone_busy Ends old new h = absurd h
-alone_busy (Stops cause) old new h = absurd h
+alone_busy : (d : Due) (early : Bool) (old new : CoreState) → AloneOf d early old new → idle_due d ≡ None
+alone_busy (Does deed) early old new h = refl
+alone_busy (Waits port full) early old new h = absurd h
+alone_busy Sleeps early old new h = absurd h
+alone_busy Ends early old new h = absurd h
+alone_busy (Stops cause) early old new h = absurd h
 
 pub busy_alone : {old new : CoreState} (core : ℕ) (f : Fabric) → TicksAlone old new → is_offered (shown f core) ≡ false → idle_view old.view (shown f core) ≡ None
-busy_alone {old = old} {new = new} core f h calm = not_idle old.view (shown f core) (idle_view old.view (shown f core)) (hoped f core) (alone_busy (due old.view (shown f core)) old new (h.does (shown f core) calm)) refl
+busy_alone {old = old} {new = new} core f h calm = not_idle old.view (shown f core) (idle_view old.view (shown f core)) (hoped f core) (alone_busy (due old.view (shown f core)) (is_early old) old new (h.does (shown f core) calm)) refl

@@ -1,5 +1,5 @@
 -- The counters of the stages tell exactly when an instruction is due.
-use Rattle.std.proofs.Common.{ℕ, ◌≡◌, ◌<◌, ◌≤◌, ◌+◌, ◌-◌, ◌==◌, ◌&&◌, ◌||◌, not, nat_lt, min, max, Bool, true, false, List, Option, Some, None, refl, sym, ap, ◌∙◌, arith, length, slice_index, slice_set, if◌then◌else◌, replicate}
+use Rattle.std.proofs.Common.{ℕ, ◌≡◌, ◌<◌, ◌≤◌, ◌+◌, ◌-◌, ◌==◌, ◌||◌, nat_lt, max, Bool, true, false, List, Option, Some, None, refl, sym, ap, subst, ◌∙◌, arith, length, slice_index, slice_set, if◌then◌else◌, replicate}
 use Rattle.std.proofs.lemmas.List.{length-set, get_or-set_same, get_or-set_other, get_or_past, get_or-replicate, length-replicate}
 use Rattle.mb_decode.specs.declared.instruction.Instr.{Instr}
 use Rattle.mb_decode.specs.Registers.{reads_a, reads_b, reads_d}
@@ -16,63 +16,75 @@ use Rattle.timing_law.specs.declared.pipe.Pipe.TheVariants.{Plain, Three, Five, 
 use Rattle.timing_law.specs.declared.pipe.Jump.{Jump}
 use Rattle.timing_law.specs.declared.pipe.Jump.TheVariants.{On, Taken, Struck}
 use Rattle.timing_law.specs.declared.past.Past.{Past}
-use Rattle.timing_law.specs.Table.{branch_of, divide_extra, extra_for, first_of, is_divide, is_memory, late_of, memory_hold, ready_of, redirected, turn_of}
-use Rattle.timing_law.specs.Past.{begins_at, due_at, fresh, greatest_read, marked, operands_at, used}
-use Rattle.timing_law.specs.Passing.{instr_of, jump_of, passed_by, retired_here}
-use Rattle.pipe_latch.specs.Clocks.{Clocked, IsTimed, moved, steps_at}
+use Rattle.timing_law.specs.Table.{branch_of, divide_extra, extra_for, extra_of, first_of, is_divide, is_memory, late_of, memory_hold, ready_of, redirected, turn_of}
+use Rattle.timing_law.specs.Past.{begins_at, due_at, fresh, greatest_read, marked, operands_at, retired, used}
+use Rattle.timing_law.specs.Passing.{instr_of, jump_of, passed_by, past_after, retired_here}
+use Rattle.op_table.specs.declared.kinds.Kind.{Kind}
+use Rattle.op_table.specs.declared.kinds.Kind.TheVariants.{Divide}
+use Rattle.prepared_act.specs.declared.prepared.Prepared.{Prepared}
+use Rattle.prepared_act.specs.Prepared.{is_inner}
+use Rattle.pipe_latch.specs.Clocks.{Clocked, IsNear, IsSet, IsTimed, filled, holds, left_later, loaded, set, stayed}
 
--- counters tell whether a stage holds an instruction back
-lt_max : (t a b : ℕ) → nat_lt t (max a b) ≡ (nat_lt t a || nat_lt t b)
-lt_max t a b = grind arith
+-- the counters tell whether an instruction is due
+due_by : (t b w l e : ℕ) → w ≡ b - t → l ≡ e - (t - b) → (nat_lt 0 w || nat_lt 0 l) ≡ nat_lt t (b + e)
+due_by t b w l e wait left = grind (arith, wait, left)
 
-lt_less : (t a c : ℕ) → c ≡ a - t → nat_lt 0 c ≡ nat_lt t a
-lt_less t a c is = grind (arith, is)
-
-lt_slot : (t a c : ℕ) (in_slot : Bool) → c ≡ a - t → (not in_slot && nat_lt 0 c) ≡ nat_lt t (if in_slot then 0 else a)
-lt_slot t a c true is = grind arith
-lt_slot t a c false is = lt_less t a c is
-
-pub waits_so : (t : Clocked) (start refill busy : ℕ) (i : Option Instr) (in_slot : Bool) → IsTimed t start refill busy
-    → (nat_lt 0 start || (not in_slot && nat_lt 0 refill) || nat_lt 0 busy || nat_lt t.ticks (operands_at i t.past.ready)) ≡ nat_lt t.ticks (begins_at t.past i in_slot)
-waits_so t start refill busy i in_slot h =
-    let redirect = if in_slot then 0 else t.past.redirect in
-    let operands = operands_at i t.past.ready in
-    rw (lt_less t.ticks t.past.first start h.start, lt_slot t.ticks t.past.redirect refill in_slot h.refill, lt_less t.ticks t.past.next busy h.busy)
-    (sym (lt_max t.ticks (max (max t.past.first redirect) t.past.next) operands
-    ∙ ap (λ z. z || nat_lt t.ticks operands) (lt_max t.ticks (max t.past.first redirect) t.past.next ∙ ap (λ z. z || nat_lt t.ticks t.past.next) (lt_max t.ticks t.past.first redirect))))
-
--- and with the steps of the divider whether it is due
-few_extra_by : (p : Pipe) (b : Bool) → (if b then divide_extra p else 0) ≤ 33
-few_extra_by Plain true = omega arith
-few_extra_by Three true = omega arith
-few_extra_by Five true = omega arith
-few_extra_by Eight true = omega arith
-few_extra_by p false = omega arith
-
-pub few_extra : (p : Pipe) (i : Option Instr) → extra_for p i ≤ 33
-few_extra p None = omega arith
-few_extra p (Some i) = few_extra_by p (is_divide (kind_of i.op))
-
-due_by : (t b s e : ℕ) (w : Bool) → nat_lt t b ≡ w → s ≡ min 33 (t - b) → e ≤ 33 → (w || nat_lt s e) ≡ nat_lt t (b + e)
-due_by t b s e true is steps few = grind (arith, is)
-due_by t b s e false is steps few = grind (arith, is, steps, few)
-
-pub early_so : (t : Clocked) (i : Option Instr) (in_slot : Bool) → t.steps ≡ steps_at t.past t.ticks i in_slot
-    → (nat_lt t.ticks (begins_at t.past i in_slot) || nat_lt t.steps (extra_for t.past.pipe i)) ≡ nat_lt t.ticks (due_at t.past i in_slot)
+pub holds_so : (t : Clocked) (i : Option Instr) (in_slot : Bool) → IsSet t i in_slot → holds t ≡ nat_lt t.ticks (due_at t.past i in_slot)
 unfolding due_at
-early_so t i in_slot steps = due_by t.ticks (begins_at t.past i in_slot) t.steps (extra_for t.past.pipe i) _ refl steps (few_extra t.past.pipe i)
+holds_so t i in_slot h = due_by t.ticks (begins_at t.past i in_slot) t.wait t.left (extra_for t.past.pipe i) h.wait h.left
 
--- a step in each tick in which nothing before the divider holds the instruction back
-pub step_one : (t b s : ℕ) → nat_lt t b ≡ false → s ≡ min 33 (t - b) → s < 33 → s + 1 ≡ min 33 ((t + 1) - b)
-step_one t b s is steps lt = let le : b ≤ t = grind (arith, is) in omega (arith, le, steps, lt)
+-- a tick passes
+step_by : (t b w l e : ℕ) → w ≡ b - t → l ≡ e - (t - b) → (if nat_lt 0 w then l else l - 1) ≡ e - ((t + 1) - b)
+step_by t b w l e wait left = grind (arith, wait, left)
 
-pub step_none : (t b s : ℕ) → nat_lt t b ≡ true → s ≡ min 33 (t - b) → s ≡ min 33 ((t + 1) - b)
-step_none t b s is steps = let lt : t < b = grind (arith, is) in omega (arith, lt, steps)
+pub stays_set : (t : Clocked) (i : Option Instr) (in_slot : Bool) → IsSet t i in_slot → IsSet (stayed t) i in_slot
+stays_set t i in_slot h = record {
+  wait = omega (arith, h.wait);
+  left = step_by t.ticks (begins_at t.past i in_slot) t.wait t.left (extra_for t.past.pipe i) h.wait h.left;
+}
 
-pub step_last : (t b s : ℕ) → s ≡ min 33 (t - b) → 33 ≤ s → s ≡ min 33 ((t + 1) - b)
-step_last t b s steps le = omega (arith, steps, le)
+pub fills_set : (t : Clocked) (i : Option Instr) (in_slot : Bool) → IsSet t i in_slot → IsSet (filled t) i in_slot
+fills_set t i in_slot h = let s = stays_set t i in_slot h in record { wait = s.wait; left = s.left }
 
--- a new core, a tick that passes, and one that fills
+pub begins_set : (t : Clocked) (i : Option Instr) (in_slot : Bool) → IsSet (set i in_slot t) i in_slot
+begins_set t i in_slot = record { wait = refl; left = refl }
+
+near_more : (x : Past) (high more : ℕ) → IsNear x high → high ≤ more → IsNear x more
+near_more x high more h le = record {
+  registers = h.registers;
+  first = omega (arith, h.first, le);
+  redirect = omega (arith, h.redirect, le);
+  next = omega (arith, h.next, le);
+  ready = λ r. let here = h.ready r in omega (arith, here, le);
+}
+
+covers_by : (wait left slack : ℕ) → wait + left ≤ slack → wait - 1 + (if nat_lt 0 wait then left else left - 1) ≤ slack
+covers_by wait left slack le = grind (arith, le)
+
+pub stays_covered : (t : Clocked) → IsTimed t → t.wait - 1 + left_later t ≤ t.slack
+stays_covered t h = covers_by t.wait t.left t.slack h.covered
+
+fewer_by : (wait left slack : ℕ) → (nat_lt 0 wait || nat_lt 0 left) ≡ true → wait + left ≤ slack
+    → (0 < slack) × (wait - 1 + (if nat_lt 0 wait then left else left - 1) ≤ slack - 1)
+fewer_by wait left slack holds le = (grind (arith, holds, le), grind (arith, holds, le))
+
+-- the slack covers the ticks before the next act
+pub has_slack : (t : Clocked) → IsTimed t → holds t ≡ true → 0 < t.slack
+has_slack t h held = (fewer_by t.wait t.left t.slack held h.covered).0
+
+pub fills_covered : (t : Clocked) → IsTimed t → holds t ≡ true → t.wait - 1 + left_later t ≤ t.slack - 1
+fills_covered t h held = (fewer_by t.wait t.left t.slack held h.covered).1
+
+pub passes_timed : (t : Clocked) (slack wait left : ℕ) → IsTimed t → slack < 64 → t.wait - 1 + left_later t ≤ slack → wait ≡ t.wait - 1 → left ≡ left_later t
+    → IsTimed (record t { ticks = t.ticks + 1; slack = slack; wait = wait; left = left })
+passes_timed t slack wait left h below le waits is = record {
+  slack = below;
+  fewer = omega (arith, h.fewer);
+  near = near_more t.past (t.ticks + 30) (t.ticks + 1 + 30) h.near (omega arith);
+  covered = rw (waits, is) le;
+}
+
+-- a new core
 zero_at : (n r : ℕ) → slice_index (replicate n 0) r ≡ 0
 zero_at n r = grind (arith, get_or-replicate, get_or_past, length-replicate)
 
@@ -82,84 +94,17 @@ few_first Three = omega arith
 few_first Five = omega arith
 few_first Eight = omega arith
 
-pub new_is_timed : (p : Pipe) → IsTimed (record { acts = 0; ticks = 0; slack = 63; steps = 0; past = fresh p }) (first_of p) 0 0
-new_is_timed p = record {
-  start = omega arith;
-  refill = omega arith;
-  busy = omega arith;
-  slack = omega arith;
-  fewer = omega arith;
-  registers = refl;
-  first = let few = few_first p in omega (arith, few);
-  redirect = omega arith;
-  next = omega arith;
-  ready = λ r. rw (zero_at 32 r) (omega arith);
-}
-
-pub stays_timed : (t : Clocked) (start refill busy steps : ℕ) → IsTimed t start refill busy
-    → IsTimed (record t { ticks = t.ticks + 1; steps = steps }) (start - 1) (refill - 1) (busy - 1)
-stays_timed t start refill busy steps h = record {
-  start = omega (arith, h.start);
-  refill = omega (arith, h.refill);
-  busy = omega (arith, h.busy);
-  slack = h.slack;
-  fewer = omega (arith, h.fewer);
-  registers = h.registers;
-  first = omega (arith, h.first);
-  redirect = omega (arith, h.redirect);
-  next = omega (arith, h.next);
-  ready = λ r. let le = h.ready r in omega (arith, le);
-}
-
-used_near : (reads : Bool) (n high : ℕ) → n + 33 ≤ high → used reads n + 33 ≤ high
-used_near true n high le = le
-used_near false n high le = omega (arith, le)
-
-read_near : (i : Option Instr) (f : ℕ → ℕ) (high : ℕ) → ((r : ℕ) → f r + 33 ≤ high) → greatest_read i f + 33 ≤ high
-read_near None f high all = let le = all 0 in omega (arith, le)
-read_near (Some i) f high all =
-    let a = used_near (reads_a i) (f i.ra) high (all i.ra) in
-    let b = used_near (reads_b i) (f i.rb) high (all i.rb) in
-    let d = used_near (reads_d i) (f i.rd) high (all i.rd) in
-    omega (arith, a, b, d)
-
-slot_near : (in_slot : Bool) (n high : ℕ) → n + 33 ≤ high → (if in_slot then 0 else n) + 33 ≤ high
-slot_near true n high le = omega (arith, le)
-slot_near false n high le = le
-
--- the slack covers all ticks before the one that is due
-pub has_slack : (t : Clocked) (start refill busy : ℕ) (i : Option Instr) (in_slot : Bool) → IsTimed t start refill busy → nat_lt t.ticks (due_at t.past i in_slot) ≡ true → 0 < t.slack
-unfolding due_at operands_at
-has_slack t start refill busy i in_slot h early =
-    let read = read_near i (λ r. slice_index t.past.ready r) (t.ticks + t.slack) h.ready in
-    let slot = slot_near in_slot t.past.redirect (t.ticks + t.slack) h.redirect in
-    let few = few_extra t.past.pipe i in
-    let lt : t.ticks < max (max (max t.past.first (if in_slot then 0 else t.past.redirect)) t.past.next) (greatest_read i (λ r. slice_index t.past.ready r)) + extra_for t.past.pipe i = grind (arith, early) in
-    omega (arith, read, slot, few, lt, h.first, h.next)
-
-pub fills_timed : (t : Clocked) (start refill busy steps : ℕ) → IsTimed t start refill busy → 0 < t.slack
-    → IsTimed (record t { ticks = t.ticks + 1; steps = steps; slack = t.slack - 1 }) (start - 1) (refill - 1) (busy - 1)
-fills_timed t start refill busy steps h some = record {
-  start = omega (arith, h.start);
-  refill = omega (arith, h.refill);
-  busy = omega (arith, h.busy);
-  slack = omega (arith, h.slack);
-  fewer = omega (arith, h.fewer);
-  registers = h.registers;
-  first = omega (arith, h.first, some);
-  redirect = omega (arith, h.redirect, some);
-  next = omega (arith, h.next, some);
-  ready = λ r. let le = h.ready r in omega (arith, le, some);
-}
+pub new_is_timed : (p : Pipe) → IsTimed (record { acts = 0; ticks = 0; slack = 63; wait = first_of p; left = 0; past = fresh p })
+new_is_timed p =
+    let few = few_first p in
+    record {
+      slack = omega arith;
+      fewer = omega arith;
+      near = record { registers = refl; first = omega (arith, few); redirect = omega arith; next = omega arith; ready = λ r. rw (zero_at 32 r) (omega arith) };
+      covered = omega (arith, few);
+    }
 
 -- what an act makes of the numbers lies near
-record IsNear (x : Past) (high : ℕ) : Type 0 where
-  registers : length x.ready ≡ 32
-  first : x.first ≤ high
-  redirect : x.redirect ≤ high
-  next : x.next ≤ high
-  ready : (r : ℕ) → slice_index x.ready r ≤ high
-
 few_hold_by : (p : Pipe) (b : Bool) → (if b then memory_hold p else 1) ≤ 2
 few_hold_by Plain true = omega arith
 few_hold_by Three true = omega arith
@@ -233,34 +178,67 @@ passed_near (acts.Took take) i jump x at high h near = turned_near x at high h n
 passed_near (acts.Raised esr) i jump x at high h near = turned_near x at high h near
 passed_near (acts.Stopped cause) i jump x at high h near = h
 
-near_now : (t : Clocked) (start refill busy : ℕ) → IsTimed t start refill busy → IsNear t.past (t.ticks + 30)
-near_now t start refill busy h = record {
-  registers = h.registers;
-  first = omega (arith, h.first, h.slack);
-  redirect = omega (arith, h.redirect, h.slack);
-  next = omega (arith, h.next, h.slack);
-  ready = λ r. let le = h.ready r in omega (arith, le, h.slack);
-}
-
-pub moves_near : (here : Option Here) (done : Done) (pc : ℕ) (t : Clocked) (start refill busy : ℕ) → IsTimed t start refill busy
-    → (x : Past) → x ≡ (moved here done pc t).past → (x.first ≤ t.ticks + 30) × (x.redirect ≤ t.ticks + 30) × (x.next ≤ t.ticks + 30)
-moves_near here done pc t start refill busy h x is =
-    let n = passed_near done.act (instr_of here) (jump_of done pc) t.past t.ticks (t.ticks + 30) (near_now t start refill busy h) (omega arith) in
-    rw is (n.first, n.redirect, n.next)
-
-pub moves_timed : (here : Option Here) (done : Done) (pc : ℕ) (t : Clocked) (start refill busy : ℕ) → IsTimed t start refill busy
-    → IsTimed (moved here done pc t) ((moved here done pc t).past.first - (t.ticks + 1)) ((moved here done pc t).past.redirect - (t.ticks + 1)) ((moved here done pc t).past.next - (t.ticks + 1))
-moves_timed here done pc t start refill busy h =
-    let n = passed_near done.act (instr_of here) (jump_of done pc) t.past t.ticks (t.ticks + 30) (near_now t start refill busy h) (omega arith) in
+pub moves_timed : (here : Option Here) (done : Done) (pc : ℕ) (t : Clocked) (past : Past) → past ≡ past_after here done pc t.ticks t.past → IsTimed t
+    → IsTimed (record t { acts = t.acts + 1; ticks = t.ticks + 1; slack = 63; past = past })
+moves_timed here done pc t past is h =
+    let near = passed_near done.act (instr_of here) (jump_of done pc) t.past t.ticks (t.ticks + 30) h.near (omega arith) in
     record {
-      start = refl;
-      refill = refl;
-      busy = refl;
       slack = omega arith;
       fewer = omega (arith, h.fewer);
-      registers = n.registers;
-      first = let le = n.first in omega (arith, le);
-      redirect = let le = n.redirect in omega (arith, le);
-      next = let le = n.next in omega (arith, le);
-      ready = λ r. let le = n.ready r in omega (arith, le);
+      near = subst (λ (x : Past). IsNear x (t.ticks + 1 + 30)) (sym is) (near_more _ (t.ticks + 30) (t.ticks + 1 + 30) near (omega arith));
+      covered = omega (arith, h.covered, h.slack);
     }
+
+pub goes_timed : (i : Instr) (jump : Jump) (t : Clocked) (past : Past) → past ≡ retired i t.ticks jump t.past → IsTimed t
+    → IsTimed (record t { acts = t.acts + 1; ticks = t.ticks + 1; slack = 63; past = past })
+goes_timed i jump t past is h =
+    let near = retired_near (Some i) jump t.past t.ticks (t.ticks + 30) h.near (omega arith) in
+    record {
+      slack = omega arith;
+      fewer = omega (arith, h.fewer);
+      near = subst (λ (x : Past). IsNear x (t.ticks + 1 + 30)) (sym is) (near_more _ (t.ticks + 30) (t.ticks + 1 + 30) near (omega arith));
+      covered = omega (arith, h.covered, h.slack);
+    }
+
+-- the stages begin to hold an instruction back
+used_near : (reads : Bool) (n high : ℕ) → n ≤ high → used reads n ≤ high
+used_near true n high le = le
+used_near false n high le = omega (arith, le)
+
+read_near : (i : Option Instr) (f : ℕ → ℕ) (high : ℕ) → ((r : ℕ) → f r ≤ high) → greatest_read i f ≤ high
+read_near None f high all = omega arith
+read_near (Some i) f high all =
+    let a = used_near (reads_a i) (f i.ra) high (all i.ra) in
+    let b = used_near (reads_b i) (f i.rb) high (all i.rb) in
+    let d = used_near (reads_d i) (f i.rd) high (all i.rd) in
+    omega (arith, a, b, d)
+
+slot_near : (in_slot : Bool) (n high : ℕ) → n ≤ high → (if in_slot then 0 else n) ≤ high
+slot_near true n high le = omega (arith, le)
+slot_near false n high le = le
+
+begins_near : (x : Past) (i : Option Instr) (in_slot : Bool) (high : ℕ) → IsNear x high → begins_at x i in_slot ≤ high
+unfolding operands_at
+begins_near x i in_slot high h =
+    let read = read_near i (λ r. slice_index x.ready r) high h.ready in
+    let slot = slot_near in_slot x.redirect high h.redirect in
+    omega (arith, read, slot, h.first, h.next)
+
+pub begins_soon : (t u : Clocked) (i : Option Instr) (in_slot : Bool) (begins : ℕ) → begins ≡ begins_at t.past i in_slot → IsTimed t → t ≡ u → begins ≤ u.ticks + 30
+begins_soon t u i in_slot begins is h same =
+    subst (λ (x : Clocked). begins ≤ x.ticks + 30) same (subst (λ n. n ≤ t.ticks + 30) (sym is) (begins_near t.past i in_slot (t.ticks + 30) h.near))
+
+pub loads_timed : (t : Clocked) (begins extra : ℕ) → IsTimed t → t.slack ≡ 63 → begins ≤ t.ticks + 30 → extra ≤ 33 → IsTimed (loaded begins extra t)
+loads_timed t begins extra h full near few = record { slack = h.slack; fewer = h.fewer; near = h.near; covered = omega (arith, near, few, full) }
+
+-- an inner instruction is no divide
+no_extra : (p : Pipe) (kind : Kind) → is_inner kind ≡ true → extra_of p kind ≡ 0
+unfolding is_inner
+no_extra p (Divide signed) inner = cc
+no_extra p kind inner = refl
+
+pub inner_set : (w : Prepared) (in_slot : Bool) (begins : ℕ) (t u : Clocked) → u ≡ loaded begins 0 t → begins ≡ begins_at t.past (Some w.instr) in_slot → w.is_inner ≡ true
+    → u ≡ set (Some w.instr) in_slot t
+inner_set w in_slot begins t u is same inner =
+    is ∙ ap (λ n. loaded n 0 t) same
+    ∙ ap (λ e. loaded (begins_at t.past (Some w.instr) in_slot) e t) (sym (no_extra t.past.pipe (kind_of w.instr.op) (w.inner inner).kind))

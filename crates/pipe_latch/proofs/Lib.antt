@@ -4,3 +4,5 @@ pub mod ClockLemmas
 pub mod StagedTurns
 pub mod Turns
 pub mod Depths
+pub mod Leaving
+pub mod AloneTurns

@@ -25,36 +25,34 @@ use Rattle.core_iface.specs.declared.Flight.{Flight}
 use Rattle.core_iface.specs.declared.Tick.{Tick}
 use Rattle.core_iface.specs.declared.Tick.TheVariants as tick
 use Rattle.core_iface.specs.Flights.{applied, begun, flights_aged, file_aged}
-use Rattle.core_iface.specs.Cores.{CoreState}
+use Rattle.core_iface.specs.Cores.{CoreState, is_early, is_held}
 use Rattle.core_iface.specs.Ticks as ticks
 use Rattle.core_iface.proofs.Pending.{pending}
 use Rattle.core_iface.proofs.Turns.{did_turn, fill_turn, rest_answer, rest_turn, rests_keep}
-use Rattle.pipe_latch.specs.Clocks.{Clocked, filled, moved, stayed}
-use Rattle.pipe_latch.specs.Latches.{InFlight}
+use Rattle.pipe_latch.specs.Clocks.{Clocked, IsSet, filled, holds, left_later, moved, set, stayed}
 use Rattle.pipe_latch.specs.Staged.{staged}
-use Rattle.pipe_latch.proofs.FlightLemmas.{aged_applied, registers_after}
+use Rattle.pipe_latch.proofs.ClockLemmas.{holds_so}
 
--- what a tick finds: the flights have aged by the depth of the pipeline, and the oldest stand in the file
-pub record Ages (a : Arch) (file : List ℕ) (fl fs : List Flight) (d : ℕ) (t : Clocked) : Type 0 where
-  pub flying : InFlight 0 d fl
+-- what a tick leaves of results in flight and of the register file
+pub record Ages (before later : List ℕ) (fl fs : List Flight) (d : ℕ) (t : Clocked) : Type 0 where
   pub flights : fs ≡ flights_aged d fl
-  pub regs : a.regs ≡ file_aged d fl file
+  pub file : later ≡ file_aged d fl before
   pub depth : depth_of t.past.pipe ≡ d
   pub deep : (d == 0) ≡ false
 
--- and whether the tick fills: it is early for the word at pc, and something is pending
-pub record Finds (a : Arch) (m : List ℕ) (shown : Shown) (here : Option Here) (t : Clocked) (early fills : Bool) : Type 0 where
+-- and whether it fills: it is early for the word at pc, and something is pending
+pub record Finds (a : Arch) (m : List ℕ) (shown : Shown) (here : Option Here) (t : Clocked) (fills : Bool) : Type 0 where
   pub met : here ≡ here_at (bare a) m
-  pub early_is : early ≡ nat_lt t.ticks (due_at t.past (instr_of here) (is_some a.slot))
-  pub fills_is : fills ≡ (early && ticks.is_pending here (bare a) shown)
+  pub set : IsSet t (instr_of (here_at (bare a) m)) (is_some a.slot)
+  pub fills_is : fills ≡ (holds t && ticks.is_pending here (bare a) shown)
 
-staged_moved : (a b : Arch) (m n : List ℕ) (fl fs gs : List Flight) (file : List ℕ) (d : ℕ) (t : Clocked) (here : Option Here) (told : Done) (deed : Deed)
-    → deed.done ≡ told → b ≡ record deed.arch { regs = a.regs } → n ≡ after_store a.order deed.done.store m
-    → gs ≡ fs ++ begun told.write → here ≡ here_at (bare a) m → Ages a file fl fs d t
-    → staged b n gs (moved here told b.pc t) ≡ ticks.acted (staged (record a { regs = file }) m fl t) deed 63
-staged_moved a b m n fl fs gs file d t here told deed is_told arch memory begin at ages =
+staged_moved : (a b : Arch) (m n : List ℕ) (fl fs gs : List Flight) (file later : List ℕ) (d : ℕ) (t : Clocked) (here : Option Here) (told : Done) (deed : Deed)
+    → deed.done ≡ told → b ≡ record deed.arch { regs = written told.write a.regs } → n ≡ after_store a.order deed.done.store m
+    → gs ≡ fs ++ begun told.write → here ≡ here_at (bare a) m → Ages file later fl fs d t
+    → staged b later n gs (moved here told b.pc t) ≡ ticks.acted (staged a file m fl t) deed 63
+staged_moved a b m n fl fs gs file later d t here told deed is_told arch memory begin at ages =
     let in_either : ℕ → Bool → CoreState = λ deep zero. record {
-      view = after (record { arch = record a { regs = applied fl file }; memory = m }) deed;
+      view = after (record { arch = a; memory = m }) deed;
       acts = t.acts + 1;
       ticks = t.ticks + 1;
       slack = 63;
@@ -63,17 +61,16 @@ staged_moved a b m n fl fs gs file d t here told deed is_told arch memory begin 
       past = past_after (here_at (bare a) m) deed.done deed.arch.pc t.ticks t.past;
     } in
     let in_depth : ℕ → CoreState = λ deep. in_either deep (deep == 0) in
-    let first : staged b n gs (moved here told b.pc t) ≡ in_either d false =
-    rw (begin, ages.flights, arch, memory, at, ages.regs)
-    (subst (λ (e : Done). staged (record deed.arch { regs = file_aged d fl file }) (after_store a.order deed.done.store m) (flights_aged d fl ++ begun e.write) (moved (here_at (bare a) m) e deed.arch.pc t) ≡ in_either d false) is_told
-    (rw (registers_after d deed.done.write fl file ages.flying) refl)) in
+    let first : staged b later n gs (moved here told b.pc t) ≡ in_either d false =
+    rw (begin, ages.flights, arch, memory, at, ages.file)
+    (subst (λ (e : Done). staged (record deed.arch { regs = written e.write a.regs }) (file_aged d fl file) (after_store a.order deed.done.store m) (flights_aged d fl ++ begun e.write) (moved (here_at (bare a) m) e deed.arch.pc t) ≡ in_either d false) is_told refl) in
     first ∙ sym (ap (in_either d) ages.deep) ∙ sym (ap in_depth ages.depth)
 
-staged_ticked : (a b : Arch) (m n : List ℕ) (fl fs : List Flight) (file : List ℕ) (d slack steps : ℕ) (t : Clocked) → b ≡ a → n ≡ m → Ages a file fl fs d t
-    → staged b n fs (record t { ticks = t.ticks + 1; slack = slack; steps = steps }) ≡ record (ticks.ticked (staged (record a { regs = file }) m fl t)) { slack = slack }
-staged_ticked a b m n fl fs file d slack steps t arch memory ages =
+pub staged_ticked : (a b : Arch) (m n : List ℕ) (fl fs : List Flight) (file later : List ℕ) (d slack wait left : ℕ) (t : Clocked) → b ≡ a → n ≡ m → Ages file later fl fs d t
+    → staged b later n fs (record t { ticks = t.ticks + 1; slack = slack; wait = wait; left = left }) ≡ record (ticks.ticked (staged a file m fl t)) { slack = slack }
+staged_ticked a b m n fl fs file later d slack wait left t arch memory ages =
     let in_depth : ℕ → CoreState = λ deep. record {
-      view = record { arch = record a { regs = applied fl file }; memory = m };
+      view = record { arch = a; memory = m };
       acts = t.acts;
       ticks = t.ticks + 1;
       slack = slack;
@@ -81,8 +78,8 @@ staged_ticked a b m n fl fs file d slack steps t arch memory ages =
       flights = flights_aged deep fl;
       past = t.past;
     } in
-    let first : staged b n fs (record t { ticks = t.ticks + 1; slack = slack; steps = steps }) ≡ in_depth d =
-    rw (arch, memory, ages.flights, ages.regs, aged_applied d fl file ages.flying) refl in
+    let first : staged b later n fs (record t { ticks = t.ticks + 1; slack = slack; wait = wait; left = left }) ≡ in_depth d =
+    rw (arch, memory, ages.flights, ages.file) refl in
     first ∙ sym (ap in_depth ages.depth)
 
 turned_and : (early none may : Bool) → (early && (none && may)) ≡ ((none && early) && may)
@@ -91,58 +88,62 @@ turned_and true false may = refl
 turned_and false true may = refl
 turned_and false false may = refl
 
--- the tick fills exactly where the clause has it
-fills_so : (a : Arch) (m : List ℕ) (regs : List ℕ) (shown : Shown) (here : Option Here) (t : Clocked) (early fills : Bool) → Finds a m shown here t early fills
-    → fills ≡ (is_none (take_due (here_at (bare a) m) (bare a) shown) && nat_lt t.ticks (due_at t.past (instr_of (here_at (bare a) m)) (is_some a.slot)))
-    && ticks.may_fill (due (record { arch = record a { regs = regs }; memory = m }) shown)
-fills_so a m regs shown here t early fills finds =
-    let early_so : early ≡ nat_lt t.ticks (due_at t.past (instr_of (here_at (bare a) m)) (is_some a.slot)) = subst (λ (h : Option Here). early ≡ nat_lt t.ticks (due_at t.past (instr_of h) (is_some a.slot))) finds.met finds.early_is in
-    finds.fills_is
-    ∙ ap (λ (h : Option Here). early && ticks.is_pending h (bare a) shown) finds.met
-    ∙ ap (λ z. early && z) (pending (here_at (bare a) m) _ (bare a) m shown)
-    ∙ turned_and early _ _
-    ∙ ap (λ z. (is_none (take_due (here_at (bare a) m) (bare a) shown) && z) && ticks.may_fill (due (record { arch = record a { regs = regs }; memory = m }) shown)) early_so
+-- whether the instruction at pc is held back is whether it is early
+pub holds_early : (a : Arch) (m : List ℕ) (file : List ℕ) (fl : List Flight) (t : Clocked) → IsSet t (instr_of (here_at (bare a) m)) (is_some a.slot) → holds t ≡ is_early (staged a file m fl t)
+holds_early a m file fl t set = holds_so t (instr_of (here_at (bare a) m)) (is_some a.slot) set
 
-pub staged_acts : {P : Type 0} (done : P → List Action) (spare : P → ℕ) (leaves : P → Action → P → Type 0) (shown : Shown) (here : Option Here) (early fills : Bool) (told : Done) (a b : Arch) (m n : List ℕ)
-    (fl fs gs : List Flight) (file : List ℕ) (d steps : ℕ) (t u v : Clocked) (p q : P)
-    → Performed done spare leaves (due (record { arch = record a { regs = applied fl file }; memory = m }) shown) (Did told) a m p b n q
-    → Ages a file fl fs d t → Finds a m shown here t early fills → fills ≡ false → gs ≡ fs ++ begun told.write
-    → u ≡ moved here told b.pc t → v ≡ record u { steps = steps }
-    → ticks.Ticks done spare leaves shown (tick.Acted told.act) (staged (record a { regs = file }) m fl t) p (staged b n gs v) q
-staged_acts done spare leaves shown here early fills told a b m n fl fs gs file d steps t u v p q h ages finds goes begin acts_so steps_so =
-    subst (λ (w : Clocked). ticks.Ticks done spare leaves shown (tick.Acted told.act) (staged (record a { regs = file }) m fl t) p (staged b n gs w) q) (sym steps_so)
-    (subst (λ (w : Clocked). ticks.Ticks done spare leaves shown (tick.Acted told.act) (staged (record a { regs = file }) m fl t) p (staged b n gs w) q) (sym acts_so)
+-- the tick fills exactly where the clause has it
+fills_so : (a : Arch) (m : List ℕ) (file : List ℕ) (fl : List Flight) (shown : Shown) (here : Option Here) (t : Clocked) (fills : Bool) → Finds a m shown here t fills
+    → fills ≡ (is_held (staged a file m fl t) shown && ticks.may_fill (due (record { arch = a; memory = m }) shown))
+fills_so a m file fl shown here t fills finds =
+    finds.fills_is
+    ∙ ap (λ (h : Option Here). holds t && ticks.is_pending h (bare a) shown) finds.met
+    ∙ ap (λ z. holds t && z) (pending (here_at (bare a) m) _ (bare a) m shown)
+    ∙ turned_and (holds t) _ _
+    ∙ ap (λ z. (is_none (take_due (here_at (bare a) m) (bare a) shown) && z) && ticks.may_fill (due (record { arch = a; memory = m }) shown)) (holds_early a m file fl t finds.set)
+
+pub staged_acts : {P : Type 0} (done : P → List Action) (spare : P → ℕ) (leaves : P → Action → P → Type 0) (shown : Shown) (here : Option Here) (fills : Bool) (told : Done) (a b c : Arch) (m n : List ℕ)
+    (fl fs gs : List Flight) (file later : List ℕ) (d : ℕ) (i : Option Instr) (in_slot : Bool) (t u v : Clocked) (p q : P)
+    → Performed done spare leaves (due (record { arch = a; memory = m }) shown) (Did told) a m p b n q
+    → c ≡ record b { regs = written told.write b.regs }
+    → Ages file later fl fs d t → Finds a m shown here t fills → fills ≡ false → gs ≡ fs ++ begun told.write
+    → u ≡ moved here told c.pc t → v ≡ set i in_slot u
+    → ticks.Ticks done spare leaves shown (tick.Acted told.act) (staged a file m fl t) p (staged c later n gs v) q
+staged_acts done spare leaves shown here fills told a b c m n fl fs gs file later d i in_slot t u v p q h back ages finds goes begin acts_so set_so =
+    subst (λ (w : Clocked). ticks.Ticks done spare leaves shown (tick.Acted told.act) (staged a file m fl t) p (staged c later n gs w) q) (sym set_so)
+    (subst (λ (w : Clocked). ticks.Ticks done spare leaves shown (tick.Acted told.act) (staged a file m fl t) p (staged c later n gs (set i in_slot w)) q) (sym acts_so)
     (record {
       does = did_turn done spare leaves _ _ _ told a b m n p q _ _ h.does (record {
         below = omega arith;
-        core = λ deed is_told arch memory. staged_moved a b m n fl fs gs file d t here told deed is_told arch memory begin finds.met ages;
-      }) (sym (fills_so a m (applied fl file) shown here t early fills finds) ∙ goes);
+        core = λ deed is_told arch memory.
+            staged_moved a c m n fl fs gs file later d t here told deed is_told (back ∙ ap (λ (x : Arch). record x { regs = written told.write x.regs }) arch) memory begin finds.met ages;
+      }) (sym (fills_so a m file fl shown here t fills finds) ∙ goes);
     }))
 
-pub staged_rests : {P : Type 0} (done : P → List Action) (spare : P → ℕ) (leaves : P → Action → P → Type 0) (shows : P → Shown) (here : Option Here) (early fills : Bool) (why : Idle) (answer : Tick) (a b : Arch) (m n : List ℕ)
-    (fl fs : List Flight) (file : List ℕ) (d : ℕ) (i : Option Instr) (in_slot : Bool) (t u : Clocked) (p q : P)
-    → Performed done spare leaves (due (record { arch = record a { regs = applied fl file }; memory = m }) (shows p)) (Rests why) a m p b n q
-    → Ages a file fl fs d t → Finds a m (shows p) here t early fills → fills ≡ false
-    → answer ≡ ticks.rest_of why (is_quiet (bare b) here (shows q)) → u ≡ stayed i in_slot t
-    → ticks.Ticks done spare leaves (shows p) answer (staged (record a { regs = file }) m fl t) p (staged b n fs u) q
-staged_rests done spare leaves shows here early fills why answer a b m n fl fs file d i in_slot t u p q h ages finds goes is stays =
+pub staged_rests : {P : Type 0} (done : P → List Action) (spare : P → ℕ) (leaves : P → Action → P → Type 0) (shows : P → Shown) (here : Option Here) (fills : Bool) (why : Idle) (answer : Tick) (a b : Arch) (m n : List ℕ)
+    (fl fs : List Flight) (file later : List ℕ) (d : ℕ) (t u : Clocked) (p q : P)
+    → Performed done spare leaves (due (record { arch = a; memory = m }) (shows p)) (Rests why) a m p b n q
+    → Ages file later fl fs d t → Finds a m (shows p) here t fills → fills ≡ false
+    → answer ≡ ticks.rest_of why (is_quiet (bare b) here (shows q)) → u ≡ stayed t
+    → ticks.Ticks done spare leaves (shows p) answer (staged a file m fl t) p (staged b later n fs u) q
+staged_rests done spare leaves shows here fills why answer a b m n fl fs file later d t u p q h ages finds goes is stays =
     let answered = rest_answer shows here why answer a b m n p q (rests_keep done spare leaves _ why a b m n p q h.does) finds.met is in
-    subst (λ (x : Tick). ticks.Ticks done spare leaves (shows p) x (staged (record a { regs = file }) m fl t) p (staged b n fs u) q) (sym answered)
-    (subst (λ (w : Clocked). ticks.Ticks done spare leaves (shows p) (ticks.rest_of why (is_quiet (bare a) (here_at (bare a) m) (shows p))) (staged (record a { regs = file }) m fl t) p (staged b n fs w) q) (sym stays)
+    subst (λ (x : Tick). ticks.Ticks done spare leaves (shows p) x (staged a file m fl t) p (staged b later n fs u) q) (sym answered)
+    (subst (λ (w : Clocked). ticks.Ticks done spare leaves (shows p) (ticks.rest_of why (is_quiet (bare a) (here_at (bare a) m) (shows p))) (staged a file m fl t) p (staged b later n fs w) q) (sym stays)
     (record {
-      does = rest_turn done spare leaves _ _ _ why a b m n p q _ _ h.does (sym (fills_so a m (applied fl file) (shows p) here t early fills finds) ∙ goes)
-          (λ arch memory. staged_ticked a b m n fl fs file d t.slack (stayed i in_slot t).steps t arch memory ages);
+      does = rest_turn done spare leaves _ _ _ why a b m n p q _ _ h.does (sym (fills_so a m file fl (shows p) here t fills finds) ∙ goes)
+          (λ arch memory. staged_ticked a b m n fl fs file later d t.slack (t.wait - 1) (left_later t) t arch memory ages);
     }))
 
-pub staged_fills : {P : Type 0} (done : P → List Action) (spare : P → ℕ) (leaves : P → Action → P → Type 0) (shown : Shown) (here : Option Here) (early fills : Bool) (a : Arch) (m : List ℕ)
-    (fl fs : List Flight) (file : List ℕ) (d : ℕ) (i : Option Instr) (in_slot : Bool) (t u : Clocked) (p : P)
-    → Ages a file fl fs d t → Finds a m shown here t early fills → fills ≡ true → u ≡ filled i in_slot t → 0 < t.slack
-    → ticks.Ticks done spare leaves shown tick.Filling (staged (record a { regs = file }) m fl t) p (staged a m fs u) p
-staged_fills done spare leaves shown here early fills a m fl fs file d i in_slot t u p ages finds goes fill less =
-    subst (λ (w : Clocked). ticks.Ticks done spare leaves shown tick.Filling (staged (record a { regs = file }) m fl t) p (staged a m fs w) p) (sym fill)
+pub staged_fills : {P : Type 0} (done : P → List Action) (spare : P → ℕ) (leaves : P → Action → P → Type 0) (shown : Shown) (here : Option Here) (fills : Bool) (a : Arch) (m : List ℕ)
+    (fl fs : List Flight) (file later : List ℕ) (d : ℕ) (t u : Clocked) (p : P)
+    → Ages file later fl fs d t → Finds a m shown here t fills → fills ≡ true → u ≡ filled t → 0 < t.slack
+    → ticks.Ticks done spare leaves shown tick.Filling (staged a file m fl t) p (staged a later m fs u) p
+staged_fills done spare leaves shown here fills a m fl fs file later d t u p ages finds goes fill less =
+    subst (λ (w : Clocked). ticks.Ticks done spare leaves shown tick.Filling (staged a file m fl t) p (staged a later m fs w) p) (sym fill)
     (record {
-      does = fill_turn done spare leaves _ _ _ p p _ _ (sym (fills_so a m (applied fl file) shown here t early fills finds) ∙ goes)
-          (record { less = omega (arith, less); core = staged_ticked a a m m fl fs file d (t.slack - 1) (filled i in_slot t).steps t refl refl ages; ports = refl });
+      does = fill_turn done spare leaves _ _ _ p p _ _ (sym (fills_so a m file fl shown here t fills finds) ∙ goes)
+          (record { less = omega (arith, less); core = staged_ticked a a m m fl fs file later d (t.slack - 1) (t.wait - 1) (left_later t) t refl refl ages; ports = refl });
     })
 
 -- what stays of a core that does nothing, of its memory at an act, and of its pipeline
@@ -153,6 +154,15 @@ did_stores done spare leaves (Waits port full) told a b m n p q h = absurd h
 did_stores done spare leaves Sleeps told a b m n p q h = absurd h
 did_stores done spare leaves Ends told a b m n p q h = absurd h
 did_stores done spare leaves (Stops cause) told a b m n p q h = absurd h
+
+-- an act leaves the registers as they were before its result is written
+pub did_regs : {P : Type 0} (done : P → List Action) (spare : P → ℕ) (leaves : P → Action → P → Type 0) (due : Due) (told : Done) (a b : Arch) (m n : List ℕ) (p q : P)
+    → PerformedBy done spare leaves due (Did told) a m p b n q → b.regs ≡ a.regs
+did_regs done spare leaves (Does deed) told a b m n p q h = ap (λ (x : Arch). x.regs) h.arch
+did_regs done spare leaves (Waits port full) told a b m n p q h = absurd h
+did_regs done spare leaves Sleeps told a b m n p q h = absurd h
+did_regs done spare leaves Ends told a b m n p q h = absurd h
+did_regs done spare leaves (Stops cause) told a b m n p q h = absurd h
 
 pipe_retired : (i : Option Instr) (at : ℕ) (jump : Jump) (x : Past) → (retired_here i at jump x).pipe ≡ x.pipe
 pipe_retired None at jump x = refl

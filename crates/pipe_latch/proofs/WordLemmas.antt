@@ -1,27 +1,51 @@
 -- Words that were fetched are words of memory.
-use Rattle.std.proofs.Common.{ℕ, zero, suc, ◌≡◌, ◌<◌, ◌≤◌, ◌+◌, ◌-◌, ◌==◌, ◌&&◌, ◌||◌, nat_le, nat_lt, Bool, true, false, List, [], ◌∷◌, ◌++◌, Some, refl, sym, ap, subst, ◌∙◌, arith, take, drop, slice_get, slice_range, ◌⊎◌, inl, inr}
-use Rattle.std.specs.List.{find, list_any}
+use Rattle.std.proofs.Common.{ℕ, zero, suc, ◌≡◌, ◌<◌, ◌≤◌, ◌+◌, ◌-◌, ◌%◌, ◌==◌, ◌&&◌, ◌||◌, nat_le, nat_lt, Bool, true, false, List, [], ◌∷◌, ◌++◌, Option, Some, None, refl, sym, ap, subst, ◌∙◌, arith, take, drop, slice_get, slice_set, slice_range, ◌⊎◌, inl, inr}
+use Rattle.std.specs.List.{list_any}
 use Rattle.core_regs.specs.declared.causes.Order.{Order}
 use Rattle.core_regs.specs.declared.causes.Size.{Size}
 use Rattle.core_regs.specs.declared.causes.Size.TheVariants.{Byte, Half, Word}
 use Rattle.byte_mem.specs.Access.{bytes_of, loaded, stored}
 use Rattle.byte_mem.proofs.Storing.{length_stored, stored_elsewhere}
+use Rattle.isa_step.specs.declared.acts.Done.{Done}
 use Rattle.isa_step.specs.declared.acts.Store.{Store}
+use Rattle.isa_step.specs.Deeds.{after_store}
+use Rattle.prepared_act.specs.declared.flow.Flow.TheVariants.{On, Stored}
+use Rattle.prepared_act.specs.Retiring.{flow_by, flow_of}
 use Rattle.pipe_latch.specs.declared.fetching.Fetched.{Fetched}
-use Rattle.pipe_latch.specs.Latches.{AreWords, holds_at}
+use Rattle.pipe_latch.specs.Latches.{AreWords, IsWord, holds_at}
 
-pub words_more : (m : List ℕ) (order : Order) (fs : List Fetched) (f : Fetched) → AreWords m order fs → loaded m Word order f.addr ≡ Some f.word → AreWords m order (fs ++ f ∷ [])
-words_more m order [] f h is = (is, tt)
-words_more m order (g ∷ fs) f h is = (h.0, words_more m order fs f h.1 is)
+-- a word that is fetched stands in place of another
+pub words_set : (m : List ℕ) (order : Order) (fs : List Fetched) (k : ℕ) (f : Fetched) → AreWords m order fs → IsWord m order f → AreWords m order (slice_set fs k f)
+words_set m order [] zero f h is = tt
+words_set m order [] (suc k) f h is = tt
+words_set m order (g ∷ fs) zero f h is = (is, h.1)
+words_set m order (g ∷ fs) (suc k) f h is = (h.0, words_set m order fs k f h.1 is)
 
-found_in : (m : List ℕ) (order : Order) (a : ℕ) (f g : Fetched) (fs : List Fetched) (t : Bool) → (g.addr == a) ≡ t → (find (λ (f : Fetched). f.addr == a) fs ≡ Some f → loaded m Word order a ≡ Some f.word)
-    → loaded m Word order g.addr ≡ Some g.word → find (λ (f : Fetched). f.addr == a) (g ∷ fs) ≡ Some f → loaded m Word order a ≡ Some f.word
-found_in m order a f g fs true is later word h = grind (arith, is, word, h)
-found_in m order a f g fs false is later word h = later (grind (arith, is, h))
+pub word_kept : (m : List ℕ) (order : Order) (fs : List Fetched) (k a : ℕ) (f : Fetched) → AreWords m order fs → slice_get fs k ≡ Some f → f.addr ≡ a → a % 4 ≡ 0 → loaded m Word order a ≡ Some f.word
+word_kept m order [] zero a f h is at aligned = cc
+word_kept m order [] (suc k) a f h is at aligned = cc
+word_kept m order (g ∷ fs) zero a f h is at aligned =
+    let same : g ≡ f = cc in
+    subst (λ b. loaded m Word order b ≡ Some f.word) at (subst (λ (x : Fetched). IsWord m order x) same h.0 (subst (λ b. b % 4 ≡ 0) (sym at) aligned))
+word_kept m order (g ∷ fs) (suc k) a f h is at aligned = word_kept m order fs k a f h.1 is at aligned
 
-pub found_word : (m : List ℕ) (order : Order) (a : ℕ) (f : Fetched) (fs : List Fetched) → AreWords m order fs → find (λ (f : Fetched). f.addr == a) fs ≡ Some f → loaded m Word order a ≡ Some f.word
-found_word m order a f [] h is = cc
-found_word m order a f (g ∷ fs) h is = found_in m order a f g fs _ refl (found_word m order a f fs h.1) h.0 is
+-- what an act leaves of them, by where it led
+pub words_on : (m : List ℕ) (order other : Order) (done : Done) (fs : List Fetched) → On ≡ flow_of done → AreWords m other fs → AreWords (after_store order done.store m) other fs
+words_on m order other done fs is h = on_by done.jumped done.store is
+  where
+    on_by : (jumped : Bool) (store : Option Store) → On ≡ flow_by jumped store → AreWords (after_store order store m) other fs
+    on_by true store is = cc
+    on_by false None is = h
+    on_by false (Some s) is = cc
+
+pub words_stored : (m : List ℕ) (order other : Order) (done : Done) (addr : ℕ) (fs : List Fetched) → Stored addr ≡ flow_of done
+    → ((s : Store) → addr ≡ s.addr → AreWords (stored m s.size order s.addr s.word) other fs) → AreWords (after_store order done.store m) other fs
+words_stored m order other done addr fs is h = stored_by done.jumped done.store is
+  where
+    stored_by : (jumped : Bool) (store : Option Store) → Stored addr ≡ flow_by jumped store → AreWords (after_store order store m) other fs
+    stored_by true store is = cc
+    stored_by false None is = cc
+    stored_by false (Some s) is = h s cc
 
 -- a part of a list by its items
 take_same : (n : ℕ) (xs ys : List ℕ) → ((k : ℕ) → k < n → slice_get xs k ≡ slice_get ys k) → take n xs ≡ take n ys
@@ -85,7 +109,7 @@ words_kept m s order other fs none h = each fs (or_left (list_any (holds_at s.ad
     each : (fs : List Fetched) → list_any (holds_at s.addr) fs ≡ false → list_any (holds_at (s.addr + 3)) fs ≡ false → AreWords m other fs → AreWords (stored m s.size order s.addr s.word) other fs
     each [] first last h = tt
     each (f ∷ fs) first last h = (
-      load_kept m s.size order other s.addr s.word f.addr
-          (far s.size s.addr f.addr (far_by f.addr s.addr _ refl (or_left (holds_at s.addr f) _ first) (or_left (holds_at (s.addr + 3) f) _ last))) ∙ h.0,
+      λ aligned. load_kept m s.size order other s.addr s.word f.addr
+          (far s.size s.addr f.addr (far_by f.addr s.addr _ refl (or_left (holds_at s.addr f) _ first) (or_left (holds_at (s.addr + 3) f) _ last))) ∙ h.0 aligned,
       each fs (or_right (holds_at s.addr f) _ first) (or_right (holds_at (s.addr + 3) f) _ last) h.1,
     )

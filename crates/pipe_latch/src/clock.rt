@@ -1,37 +1,34 @@
-//! The time of a pipelined core: how far its stages are, and its past.
+//! The time of a core with stages: how far they are, and its past.
 
-ghost use Rattle.std.specs.Prelude.{◌≡◌, ℕ, ◌<◌, ◌≤◌, ◌^◌, ◌+◌, ◌-◌, IfSome, nat_lt, slice_index, true};
+ghost use Rattle.std.specs.Prelude.{◌≡◌, ℕ, ◌<◌, ◌≤◌, ◌^◌, ◌+◌, ◌-◌, IfSome, Some, nat_lt, slice_index, true};
 ghost use Rattle.std.specs.Option.{option_copied};
 ghost use Rattle.mb_decode.specs.Meaning.{NamesRegisters};
-ghost use Rattle.timing_law.specs.Past.{begins_at, due_at, fresh};
-ghost use Rattle.timing_law.specs.Table.{depth_of};
-ghost use Rattle.pipe_latch.specs.Clocks.{filled, moved, stayed, steps_at};
+ghost use Rattle.op_table.specs.Kinds.{stores};
+ghost use Rattle.timing_law.specs.Past.{fresh};
+ghost use Rattle.timing_law.specs.Table.{depth_of, first_of};
+ghost use Rattle.pipe_latch.specs.Clocks.{filled, holds, jump_by, left_later, loaded, moved, set, stayed, went};
 
 use isa_step::{Done, Here};
 use mb_decode::Instr;
+use op_table::Kind;
+use prepared_act::{Flow, Prepared};
 use std::marker::Model;
-use timing_law::{Past, Pipe, operands_at};
-
-/// The most steps that the divider does.
-const STEPS: u8 = 33;
+use timing_law::{Jump, Past, Pipe, is_ahead};
 
 /// The slack after an act: more than any instruction waits.
 const SLACK: u8 = 63;
 
-/// The stages of a pipelined core, in ticks to come, and its past.
+/// The time of a core with stages, in ticks to come, and its past.
 #[derive(Drop)]
 pub struct Clock {
     acts: u64,
     ticks: u64,
     slack: u8,
-    /// In how many ticks the pipeline is full for the first time.
-    start: u8,
-    /// In how many ticks the word at pc is fetched and decoded again after a flush.
-    refill: u8,
-    /// In how many ticks the stage of execution is free.
-    busy: u8,
-    /// The steps that the divider did for the instruction at pc.
-    steps: u8,
+    /// In how many ticks no stage holds the instruction at pc back: the pipeline is full, the word is decoded again after a
+    /// flush, execution is free, and the last operand is ready.
+    wait: u8,
+    /// The steps that the divider has left to do for it.
+    left: u8,
     /// When each register can be used, among what else is told of the past.
     past: Past,
 }
@@ -41,24 +38,44 @@ impl Model for Clock {
 
     ghost Value = { Clocked };
 
-    ghost view = { λ c. record { acts = c.acts; ticks = c.ticks; slack = c.slack; steps = c.steps; past = c.past } };
+    ghost view = { λ c. record { acts = c.acts; ticks = c.ticks; slack = c.slack; wait = c.wait; left = c.left; past = c.past } };
 
-    ghost invariant = { λ c. IsTimed (record { acts = c.acts; ticks = c.ticks; slack = c.slack; steps = c.steps; past = c.past }) c.start c.refill c.busy };
+    ghost invariant = { λ c. IsTimed (record { acts = c.acts; ticks = c.ticks; slack = c.slack; wait = c.wait; left = c.left; past = c.past }) };
+}
+
+fn is_store(kind: Kind) -> bool
+    ensures { result ≡ stores kind }
+{
+    matches!(kind, Kind::Store(_))
+}
+
+/// Where an instruction that retired leads, by the pc after it.
+#[inline(always)]
+fn jump_by(flow: Flow, pc: u32) -> Jump
+    ensures { result ≡ jump_by flow pc }
+{
+    match flow {
+        Flow::On => Jump::On,
+        Flow::Jumped => Jump::Taken,
+        Flow::Stored(addr) => if is_ahead(addr, pc) {
+            Jump::Struck
+        } else {
+            Jump::On
+        },
+    }
 }
 
 impl Clock {
-    /// The time of a core before its first tick.
+    /// The time of a core before its first tick, which has no instruction to hold back yet.
     pub fn new(pipe: Pipe) -> Clock
-        ensures { result ≡ record { acts = 0; ticks = 0; slack = 63; steps = 0; past = fresh pipe } }
+        ensures { result ≡ record { acts = 0; ticks = 0; slack = 63; wait = first_of pipe; left = 0; past = fresh pipe } }
     {
         Clock {
             acts: 0,
             ticks: 0,
             slack: SLACK,
-            start: pipe.first(),
-            refill: 0,
-            busy: 0,
-            steps: 0,
+            wait: pipe.first(),
+            left: 0,
             past: Past::new(pipe),
         }
     }
@@ -108,68 +125,60 @@ impl Clock {
         self.past.ready[reg as usize].saturating_sub(self.ticks) as u8
     }
 
-    /// Whether a stage before the divider holds an instruction back: the pipeline fills for the first time or again,
-    /// execution is busy, or an operand is not ready.
-    fn waits(&self, i: Option<&Instr>, in_slot: bool) -> bool
-        requires { IfSome (option_copied i) NamesRegisters }
-        ensures { result ≡ nat_lt self.now.ticks (begins_at self.now.past (option_copied i.entry) in_slot) }
+    /// Whether the instruction at pc is held back.
+    #[inline(always)]
+    pub fn holds(&self) -> bool
+        ensures { result ≡ holds self.now }
     {
-        let refills = !in_slot && self.refill > 0;
-        let operands = operands_at(i, &self.past.ready);
-        self.start > 0 || refills || self.busy > 0 || self.ticks < operands
+        self.wait > 0 || self.left > 0
     }
 
-    /// Whether the tick comes before the one in which an instruction is due.
-    pub fn is_early(&self, i: Option<&Instr>, in_slot: bool) -> bool
-        requires names { IfSome (option_copied i) NamesRegisters }
-        requires steps { self.now.steps ≡ steps_at self.now.past self.now.ticks (option_copied i) in_slot }
-        ensures { result ≡ nat_lt self.now.ticks (due_at self.now.past (option_copied i.entry) in_slot) }
+    /// What a tick leaves of the divider's steps: it does one, unless a stage before it holds the instruction back.
+    #[inline(always)]
+    fn left_later(&self) -> u8
+        ensures { result ≡ left_later self.now }
     {
-        self.waits(i, in_slot) || u64::from(self.steps) < self.past.extra(i)
-    }
-
-    /// The divider does a step, unless a stage before it holds the instruction back.
-    fn stepped(&self, i: Option<&Instr>, in_slot: bool) -> u8
-        requires names { IfSome (option_copied i) NamesRegisters }
-        requires steps { self.now.steps ≡ steps_at self.now.past self.now.ticks (option_copied i) in_slot }
-        ensures { result ≡ steps_at self.now.past (self.now.ticks + 1) (option_copied i.entry) in_slot }
-    {
-        if !self.waits(i, in_slot) && self.steps < STEPS {
-            self.steps + 1
+        if self.wait > 0 {
+            self.left
         } else {
-            self.steps
+            self.left.saturating_sub(1)
         }
     }
 
-    /// Passes a tick in which nothing was due.
-    pub fn stay(&mut self, i: Option<&Instr>, in_slot: bool)
-        requires names { IfSome (option_copied i) NamesRegisters }
+    /// Passes a tick without an act, which leaves a slack.
+    #[inline(always)]
+    fn pass(&mut self, slack: u8)
         requires young { self.old.ticks < 2 ^ 62 }
-        requires steps { self.old.steps ≡ steps_at self.old.past self.old.ticks (option_copied i) in_slot }
-        ensures { self.new ≡ stayed (option_copied i.entry) in_slot self.old }
+        requires below { slack < 64 }
+        requires covered { self.old.wait - 1 + left_later self.old ≤ slack }
+        ensures { self.new ≡ record (stayed self.old) { slack = slack } }
     {
-        self.steps = self.stepped(i, in_slot);
-        self.start = self.start.saturating_sub(1);
-        self.refill = self.refill.saturating_sub(1);
-        self.busy = self.busy.saturating_sub(1);
+        self.left = self.left_later();
+        self.slack = slack;
+        self.wait = self.wait.saturating_sub(1);
         self.ticks += 1;
     }
 
-    /// Passes a tick before the one in which an instruction is due.
-    pub fn fill(&mut self, i: Option<&Instr>, in_slot: bool)
-        requires names { IfSome (option_copied i) NamesRegisters }
+    /// Passes a tick in which nothing was due.
+    #[inline(always)]
+    pub fn stay(&mut self)
         requires young { self.old.ticks < 2 ^ 62 }
-        requires steps { self.old.steps ≡ steps_at self.old.past self.old.ticks (option_copied i) in_slot }
-        requires early { nat_lt self.old.ticks (due_at self.old.past (option_copied i) in_slot) ≡ true }
-        ensures times { self.new ≡ filled (option_copied i.entry) in_slot self.old }
+        ensures { self.new ≡ stayed self.old }
+    {
+        let slack = self.slack;
+        self.pass(slack);
+    }
+
+    /// Passes a tick in which the instruction at pc is held back.
+    #[inline(always)]
+    pub fn fill(&mut self)
+        requires young { self.old.ticks < 2 ^ 62 }
+        requires holds { holds self.old ≡ true }
+        ensures times { self.new ≡ filled self.old }
         ensures less { 0 < self.old.slack }
     {
-        self.steps = self.stepped(i, in_slot);
-        self.start = self.start.saturating_sub(1);
-        self.refill = self.refill.saturating_sub(1);
-        self.busy = self.busy.saturating_sub(1);
-        self.ticks += 1;
-        self.slack -= 1;
+        let slack = self.slack - 1;
+        self.pass(slack);
     }
 
     /// Passes a tick with an act, by the word at which it was done and the pc after it.
@@ -182,17 +191,60 @@ impl Clock {
         self.acts += 1;
         self.ticks += 1;
         self.slack = SLACK;
-        self.start = self.past.first.saturating_sub(self.ticks) as u8;
-        self.refill = self.past.redirect.saturating_sub(self.ticks) as u8;
-        self.busy = self.past.next.saturating_sub(self.ticks) as u8;
     }
 
-    /// The divider begins with the instruction at pc.
-    pub fn restart(&mut self, i: Option<&Instr>, in_slot: bool)
-        requires { IfSome (option_copied i) NamesRegisters }
-        ensures { self.new ≡ record self.old { steps = steps_at self.old.past self.old.ticks (option_copied i.entry) in_slot } }
+    /// Passes a tick with an instruction that retired, by where it leads and the pc after it.
+    #[inline(always)]
+    pub fn retire(&mut self, word: &Prepared, flow: Flow, pc: u32)
+        requires young { self.old.ticks < 2 ^ 62 }
+        ensures { self.new ≡ went word.now.instr flow pc self.old }
+    {
+        self.past.retired_as(
+            &word.instr,
+            word.kind,
+            word.latency,
+            self.ticks,
+            jump_by(flow, pc),
+        );
+        self.acts += 1;
+        self.ticks += 1;
+        self.slack = SLACK;
+    }
+
+    /// The stages begin to hold back the instruction at pc, after an act.
+    #[inline(always)]
+    pub fn begin(&mut self, i: Option<&Instr>, in_slot: bool)
+        requires names { IfSome (option_copied i) NamesRegisters }
+        requires slack { self.old.slack ≡ 63 }
+        ensures { self.new ≡ set (option_copied i.entry) in_slot self.old }
     {
         let begins = self.past.begins(i, in_slot);
-        self.steps = self.ticks.saturating_sub(begins).min(u64::from(STEPS)) as u8;
+        let extra = self.past.extra(i);
+        self.load(begins, extra);
+    }
+
+    /// The same of an inner instruction, which is no divide.
+    #[inline(always)]
+    pub fn begin_inner(&mut self, word: &Prepared, in_slot: bool)
+        requires inner { word.now.is_inner ≡ true }
+        requires slack { self.old.slack ≡ 63 }
+        ensures { self.new ≡ set (Some word.now.instr) in_slot self.old }
+    {
+        let begins = self
+            .past
+            .begins_by(&word.instr, is_store(word.kind), in_slot);
+        self.load(begins, 0);
+    }
+
+    /// Loads the counters for an instruction that may begin in a tick, and of which the divider does so many steps.
+    #[inline(always)]
+    fn load(&mut self, begins: u64, extra: u64)
+        requires near { begins ≤ self.old.ticks + 30 }
+        requires extra { extra ≤ 33 }
+        requires slack { self.old.slack ≡ 63 }
+        ensures { self.new ≡ loaded begins extra self.old }
+    {
+        self.wait = begins.saturating_sub(self.ticks) as u8;
+        self.left = extra.saturating_sub(self.ticks.saturating_sub(begins)) as u8;
     }
 }

@@ -1,75 +1,128 @@
 //! Results that are not yet in the register file.
 
-ghost use Rattle.std.specs.Prelude.{◌≡◌, ℕ, ◌<◌, ◌≤◌, ◌+◌, [], ◌∷◌, ◌++◌, IfSome, filter};
+ghost use Rattle.std.specs.Prelude.{◌≡◌, ℕ, ◌<◌, ◌≤◌, ◌+◌, ◌-◌, ◌==◌, ◌&&◌, [], ◌++◌, IfSome, map, slice_get};
+ghost use Rattle.std.specs.List.{find};
 ghost use Rattle.arrayvec.specs.ArrayVec.{array_vec_len};
 ghost use Rattle.core_regs.specs.State.{reg};
-ghost use Rattle.std.specs.List.{list_any};
 ghost use Rattle.mb_decode.specs.Meaning.{NamesRegisters};
-ghost use Rattle.mb_decode.specs.Registers.{reads};
 ghost use Rattle.isa_step.specs.Wants.{operands_of};
-ghost use Rattle.core_iface.specs.Flights.{applied, begun, flights_aged, file_aged, older, has_landed, still_flies};
-ghost use Rattle.pipe_latch.specs.Latches.{InFlight, youngest};
+ghost use Rattle.core_iface.specs.Flights.{applied, begun, flights_aged, file_aged, older};
+ghost use Rattle.pipe_latch.specs.Latches.{InStages, IsFree, flight_of, flown, youngest};
 
 use arrayvec::ArrayVec;
 use core_iface::Flight;
 use core_regs::Write;
 use isa_step::{Here, Operands};
-use mb_decode::Instr;
 
-/// The results in flight, the oldest first.
-#[derive(Drop)]
-pub struct Flights {
-    pub items: ArrayVec<Flight, 8>,
+/// A stage behind execution, and the result that it holds, if it holds one.
+#[derive(Clone, Copy)]
+pub struct Stage {
+    pub(crate) is_full: bool,
+    pub(crate) reg: u8,
+    pub(crate) value: u32,
 }
 
-/// A result grows older: it is written to the register file, or flies on.
-fn pass_tick(flight: Flight, depth: u8, file: &mut [u32; 32], later: &mut Flights)
-    requires flight { (flight.reg < 32) × (flight.age < 7) }
-    requires room { array_vec_len later.old.items < 8 }
-    ensures later { later.new.items.items ≡ later.old.items.items ++ filter (still_flies depth) (older flight ∷ []) }
-    ensures file { file.new ≡ applied (filter (has_landed depth) (older flight ∷ [])) file.old }
-    ensures room { array_vec_len later.new.items ≤ array_vec_len later.old.items + 1 }
+/// A stage that holds no result.
+pub(crate) const EMPTY: Stage = Stage {
+    is_full: false,
+    reg: 0,
+    value: 0,
+};
+
+/// How many stages lie at most between execution and the register file.
+const STAGES: usize = 5;
+
+/// The results in flight.
+#[derive(Drop)]
+pub struct Flights {
+    /// The stages that a result passes, each in a tick.
+    pub(crate) stages: [Stage; STAGES],
+}
+
+/// Adds the result of a stage to a list.
+fn add(list: &mut ArrayVec<Flight, 8>, stage: Stage, age: usize)
+    requires age { age < 5 }
+    requires room { array_vec_len list.old < 8 }
+    ensures list { list.new.items ≡ list.old.items ++ flight_of stage age }
+    ensures room { array_vec_len list.new ≤ array_vec_len list.old + 1 }
 {
-    let age = flight.age + 1;
-    if age == depth {
-        file[flight.reg as usize] = flight.value;
-    } else {
-        later.items.push(Flight { age, ..flight });
+    if !stage.is_full {
+        return;
     }
+    list.push(Flight {
+        reg: stage.reg,
+        value: stage.value,
+        age: age as u8,
+    });
+}
+
+/// What stages hold when each result has gone on to the next.
+#[inline(always)]
+fn shifted(stages: &[Stage; STAGES]) -> [Stage; STAGES]
+    requires { InStages 4 0 stages.now }
+    ensures flights { flown 0 result ≡ map older (flown 0 stages.now) }
+    ensures stages { (depth : ℕ) → InStages depth 0 stages.now → InStages (depth + 1) 0 result }
+    ensures free { IsFree result }
+{
+    [EMPTY, stages[0], stages[1], stages[2], stages[3]]
 }
 
 impl Flights {
     /// No result is in flight.
     pub fn new() -> Flights
-        ensures { result.items.items ≡ [] }
+        ensures flights { flown 0 result.stages ≡ [] }
+        ensures stages { (depth : ℕ) → InStages depth 0 result.stages }
     {
         Flights {
-            items: ArrayVec::new(),
+            stages: [EMPTY; STAGES],
         }
+    }
+
+    /// The results, the oldest first.
+    fn list(&self) -> ArrayVec<Flight, 8>
+        ensures { result.items ≡ flown 0 self.now.stages }
+    {
+        let mut list = ArrayVec::new();
+        let mut age = STAGES;
+        while age > 0 {
+            age -= 1;
+            add(&mut list, self.stages[age], age);
+        }
+        list
+    }
+
+    /// A result, counted from the oldest.
+    pub fn flight(&self, k: usize) -> Option<Flight>
+        ensures { result ≡ slice_get (flown 0 self.now.stages) k }
+    {
+        self.list().get(k).copied()
+    }
+
+    /// The first stage that holds a result for a register.
+    fn found(&self, reg: u8) -> Option<Stage>
+        ensures { result ≡ find (λ s. s.is_full && s.reg == reg) self.now.stages }
+    {
+        self.stages
+            .iter()
+            .copied()
+            .find(|stage| stage.is_full && stage.reg == reg)
     }
 
     /// The value of the youngest result for a register.
     pub fn forward(&self, reg: u8) -> Option<u32>
-        ensures { result ≡ youngest self.now.items.items reg }
+        ensures { result ≡ youngest (flown 0 self.now.stages) reg }
     {
-        match self.items.iter().rev().find(|flight| flight.reg == reg) {
-            Some(flight) => Some(flight.value),
+        match self.found(reg) {
+            Some(stage) => Some(stage.value),
             None => None,
         }
-    }
-
-    /// Whether an instruction reads a register that a result in flight is for.
-    pub fn blocked(&self, i: &Instr) -> bool
-        ensures { result ≡ list_any (λ f. reads i.now f.reg) self.now.items.items }
-    {
-        self.items.iter().any(|flight| i.reads(flight.reg))
     }
 
     /// The value of a register, by its youngest result or the register file.
     #[tactic(auto, using(crate::proofs::FlightLemmas::read_youngest, crate::proofs::FlightLemmas::read_file))]
     pub fn read(&self, file: &[u32; 32], n: u8) -> u32
         requires { n < 32 }
-        ensures { result ≡ reg (applied self.now.items.items file.now) n }
+        ensures { result ≡ reg (applied (flown 0 self.now.stages) file.now) n }
     {
         if n == 0 {
             return 0;
@@ -83,7 +136,7 @@ impl Flights {
     /// The operands of the instruction at pc.
     pub fn operands(&self, file: &[u32; 32], here: &Option<Here>) -> Operands
         requires { IfSome here.now (λ here. IfSome here.instr NamesRegisters) }
-        ensures { result ≡ operands_of here.now (applied self.now.items.items file.now) }
+        ensures { result ≡ operands_of here.now (applied (flown 0 self.now.stages) file.now) }
     {
         match here {
             Some(Here { instr: Some(i), .. }) => Operands {
@@ -95,34 +148,64 @@ impl Flights {
         }
     }
 
-    /// Each result grows older, and those that reach the depth are written to the register file.
-    #[tactic(auto, using(crate::proofs::FlightLemmas::flights_none, crate::proofs::FlightLemmas::file_none))]
-    pub fn advance(&mut self, depth: u8, file: &mut [u32; 32])
-        requires depth { (1 ≤ depth) × (depth ≤ 7) }
-        requires ages { InFlight 0 depth self.old.items.items }
-        ensures flights { self.new.items.items ≡ flights_aged depth self.old.items.items }
-        ensures file { file.new ≡ file_aged depth self.old.items.items file.old }
-        ensures ages { InFlight 1 depth self.new.items.items }
-        ensures room { array_vec_len self.new.items < 8 }
+    /// The result in the last stage before the register file lands there.
+    #[inline(always)]
+    fn land(&mut self, depth: u8, file: &mut [u32; 32])
+        requires depth { (1 ≤ depth) × (depth ≤ 5) }
+        requires stages { InStages depth 0 self.old.stages }
+        ensures flights { map older (flown 0 self.new.stages) ≡ flights_aged depth (flown 0 self.old.stages) }
+        ensures file { file.new ≡ file_aged depth (flown 0 self.old.stages) file.old }
+        ensures stages { InStages (depth - 1) 0 self.new.stages }
     {
-        let mut later = Flights::new();
-        for flight in self.items.iter() {
-            pass_tick(*flight, depth, file, &mut later);
+        let place = depth as usize - 1;
+        let last = self.stages[place];
+        if !last.is_full {
+            return;
         }
-        self.items = later.items;
+        self.stages[place] = EMPTY;
+        file[last.reg as usize] = last.value;
+    }
+
+    /// Each result goes on to the next stage.
+    #[inline(always)]
+    fn shift(&mut self)
+        requires { InStages 4 0 self.old.stages }
+        ensures flights { flown 0 self.new.stages ≡ map older (flown 0 self.old.stages) }
+        ensures stages { (depth : ℕ) → InStages depth 0 self.old.stages → InStages (depth + 1) 0 self.new.stages }
+        ensures free { IsFree self.new.stages }
+    {
+        self.stages = shifted(&self.stages);
+    }
+
+    /// Each result grows older, and one that reaches the depth is written to the register file.
+    #[inline(always)]
+    pub fn advance(&mut self, depth: u8, file: &mut [u32; 32])
+        requires depth { (1 ≤ depth) × (depth ≤ 5) }
+        requires stages { InStages depth 0 self.old.stages }
+        ensures flights { flown 0 self.new.stages ≡ flights_aged depth (flown 0 self.old.stages) }
+        ensures file { file.new ≡ file_aged depth (flown 0 self.old.stages) file.old }
+        ensures stages { InStages depth 0 self.new.stages }
+        ensures free { IsFree self.new.stages }
+    {
+        self.land(depth, file);
+        self.shift();
     }
 
     /// A result begins its flight.
+    #[inline(always)]
     pub fn begin(&mut self, write: Option<Write>)
-        requires { array_vec_len self.old.items < 8 }
-        ensures { self.new.items.items ≡ self.old.items.items ++ begun write }
+        requires free { IsFree self.old.stages }
+        requires named { IfSome write (λ w. w.reg < 32) }
+        ensures flights { flown 0 self.new.stages ≡ flown 0 self.old.stages ++ begun write }
+        ensures stages { (depth : ℕ) → 1 ≤ depth → InStages depth 0 self.old.stages → InStages depth 0 self.new.stages }
     {
-        if let Some(write) = write {
-            self.items.push(Flight {
-                reg: write.reg,
-                value: write.value,
-                age: 0,
-            });
-        }
+        let Some(write) = write else {
+            return;
+        };
+        self.stages[0] = Stage {
+            is_full: true,
+            reg: write.reg,
+            value: write.value,
+        };
     }
 }

@@ -1,43 +1,52 @@
 //! A core with stages: what all pipelines but the plain one share.
 
-ghost use Rattle.std.specs.Prelude.{◌≡◌, ℕ, ◌<◌, ◌≤◌, ◌&&◌, IfSome, is_some};
-ghost use Rattle.core_regs.specs.State.{bare};
+ghost use Rattle.std.specs.Prelude.{◌≡◌, ℕ, ◌<◌, ◌≤◌, ◌&&◌, ◌^◌, IfSome, is_some, length, None, true, false};
+ghost use Rattle.core_regs.specs.State.{bare, reg, write_of};
 ghost use Rattle.isa_step.specs.Due.{here_at};
-ghost use Rattle.mb_decode.specs.Meaning.{NamesRegisters};
 ghost use Rattle.timing_law.specs.Passing.{instr_of};
 ghost use Rattle.timing_law.specs.Table.{depth_of};
 ghost use Rattle.core_iface.specs.Cores.{made};
+ghost use Rattle.core_iface.specs.Flights.{applied};
 ghost use Rattle.core_iface.specs.Ticks.{is_pending};
-ghost use Rattle.pipe_latch.specs.Clocks.{steps_at};
-ghost use Rattle.pipe_latch.specs.Latches.{AreWords, InFlight};
+ghost use Rattle.core_iface.specs.Words.{IsKept, goes_on};
+ghost use Rattle.pipe_latch.specs.Clocks.{IsSet, set};
+ghost use Rattle.pipe_latch.specs.Latches.{AreWords, InStages, flown};
 ghost use Rattle.pipe_latch.specs.Stages.{HasStages, pipe_with};
-ghost use Rattle.pipe_latch.specs.Props.{in_flight_prop, words_prop};
+ghost use Rattle.pipe_latch.specs.Props.{stages_prop, words_prop};
 ghost use Rattle.std.proofs.Props.{props};
 
 use crate::{Clock, Flights, Queue};
 use byte_mem::Memory;
-use core_iface::{Core, Flight, Tick, is_pending, rest_of};
-use core_regs::Arch;
+use core_iface::{Core, Flight, Tick, Words, is_pending, rest_of};
+use core_regs::{Arch, Write};
 use isa_step::{Here, Idle, Outcome, Ports, Sees, act, idle_at};
+use prepared_act::{Prepared, act_at_once, flow_of};
 use timing_law::{Past, Pipe, instr_of};
 
-/// A core of three, five or eight stages. Its registers are the register file, which results in flight haven't reached.
+/// A core of three, five or eight stages.
 #[derive(Drop)]
 pub struct StagedCore<const STAGES: u8> {
+    /// What a program sees: results in flight are in its registers.
     arch: Arch,
+    /// The register file, which they haven't reached.
+    file: [u32; 32],
     memory: Memory,
     flights: Flights,
     queue: Queue,
     clock: Clock,
-    /// The word at pc, decoded. A core that refills knows it too: what ends there or holds off a take does so at once.
-    here: Option<Here>,
+    words: Words,
+    /// Whether the core runs, is awake, and keeps the word at pc, whose act is inner.
+    at_once: bool,
     ghost stages: { HasStages STAGES },
     ghost pipe: { clock.past.pipe ≡ pipe_with STAGES },
-    ghost flying: { InFlight 0 (depth_of (pipe_with STAGES)) flights.items.items } by { in_flight_prop 0 (depth_of (pipe_with STAGES)) flights.items.items },
-    ghost fetched: { AreWords memory queue.order queue.items.items } by { words_prop memory queue.order queue.items.items },
-    ghost met: { here ≡ here_at (bare arch) memory },
-    ghost registers: { IfSome here (λ h. IfSome h.instr NamesRegisters) } by { Prim.hlevel props },
-    ghost steps: { clock.steps ≡ steps_at clock.past clock.ticks (instr_of here) (is_some arch.slot) },
+    ghost flying: { InStages (depth_of (pipe_with STAGES)) 0 flights.stages } by { stages_prop (depth_of (pipe_with STAGES)) 0 flights.stages },
+    ghost forwarded: { arch.regs ≡ applied (flown 0 flights.stages) file },
+    ghost fetched: { AreWords memory queue.order queue.words } by { words_prop memory queue.order queue.words },
+    ghost set: { IsSet clock (instr_of (here_at (bare arch) memory)) (is_some arch.slot) } by { Prim.hlevel props },
+    ghost runs: { at_once ≡ true → arch.stopped ≡ None },
+    ghost awake: { at_once ≡ true → arch.asleep ≡ false },
+    ghost kept: { at_once ≡ true → IsKept words.kept arch memory } by { Prim.hlevel props },
+    ghost goes: { at_once ≡ true → goes_on (here_at (bare arch) memory) ≡ true },
 }
 
 /// The pipeline with so many stages.
@@ -58,80 +67,182 @@ fn fills<P: Sees>(early: bool, here: &Option<Here>, a: &Arch, p: &P) -> bool
     early && is_pending(here, a, p)
 }
 
+/// What an inner act wrote.
+#[inline(always)]
+fn written(word: &Prepared, a: &Arch) -> Option<Write>
+    ensures value { result ≡ write_of word.now.result (reg a.now.regs word.now.result) }
+    ensures named { IfSome result (λ w. w.reg < 32) }
+{
+    if word.result == 0 {
+        None
+    } else {
+        Some(Write {
+            reg: word.result,
+            value: a.get(word.result),
+        })
+    }
+}
+
+/// There are 32 registers: what the proof of an act at once needs of their type.
+#[inline(always)]
+fn are_all(regs: &[u32; 32])
+    ensures { length regs.now ≡ 32 }
+{}
+
+/// Whether a core runs and is awake.
+#[inline(always)]
+fn is_up(a: &Arch) -> bool
+    ensures awake { result ≡ true → a.now.asleep ≡ false }
+    ensures runs { result ≡ true → a.now.stopped ≡ None }
+{
+    !a.asleep && a.stopped.is_none()
+}
+
+/// Meets a word at pc that is not inner.
+#[cold]
+#[inline(never)]
+fn meet_other(words: &Words, clock: &mut Clock, a: &Arch, m: &Memory)
+    requires { clock.old.slack ≡ 63 }
+    ensures { clock.new ≡ set (instr_of (here_at (bare a.now) m.now)) (is_some a.now.slot) clock.old }
+{
+    let here = words.here_at(a, m);
+    clock.begin(instr_of(&here), a.slot.is_some());
+}
+
+/// Meets the word at pc: the stages begin to hold it back. Whether its act can be done at once.
+#[inline(always)]
+fn meet(words: &mut Words, clock: &mut Clock, queue: &Queue, a: &Arch, m: &Memory) -> bool
+    requires slack { clock.old.slack ≡ 63 }
+    requires words { AreWords m.now queue.now.order queue.now.words }
+    ensures clock { clock.new ≡ set (instr_of (here_at (bare a.now) m.now)) (is_some a.now.slot) clock.old }
+    ensures runs { result ≡ true → a.now.stopped ≡ None }
+    ensures awake { result ≡ true → a.now.asleep ≡ false }
+    ensures kept { result ≡ true → IsKept words.new.kept a.now m.now }
+    ensures goes { result ≡ true → goes_on (here_at (bare a.now) m.now) ≡ true }
+{
+    if words.look_at(a, m, queue.word_at_pc(a, m)) {
+        let word = words.at(a.pc);
+        clock.begin_inner(word, a.slot.is_some());
+        is_up(a)
+    } else {
+        meet_other(words, clock, a, m);
+        false
+    }
+}
+
 impl<const STAGES: u8> StagedCore<STAGES> {
     ghost use Rattle.pipe_latch.specs.Cores.{staged_state};
+    ghost use Rattle.core_iface.specs.Ticks.{TicksAlone};
 
     /// A core with this view before its first tick.
     pub fn new(memory: Memory, arch: Arch) -> StagedCore<STAGES>
         requires { HasStages STAGES }
         ensures { staged_state result ≡ made (pipe_with STAGES) 63 arch memory }
     {
-        let queue = Queue::new(arch.order);
-        let here = queue.decode(&arch, &memory);
+        let queue = Queue::new(arch.order, arch.pc);
+        let mut words = Words::new();
+        let mut clock = Clock::new(pipe_with(STAGES));
+        let at_once = meet(&mut words, &mut clock, &queue, &arch, &memory);
         StagedCore {
+            file: arch.regs,
             arch,
             memory,
             flights: Flights::new(),
             queue,
-            clock: Clock::new(pipe_with(STAGES)),
-            here,
+            clock,
+            words,
+            at_once,
         }
+    }
+
+    /// A tick that can be done at once.
+    #[inline(never)]
+    fn go(&mut self) -> bool
+        requires young { self.old.clock.ticks < 2 ^ 62 }
+        requires at_once { self.old.at_once ≡ true }
+        ensures done { result ≡ true → TicksAlone (staged_state self.old) (staged_state self.new) }
+        ensures kept { result ≡ false → staged_state self.new ≡ staged_state self.old }
+    {
+        let depth = self.clock.depth();
+        if self.clock.holds() {
+            self.flights.advance(depth, &mut self.file);
+            self.queue.fetch(&self.memory, self.arch.pc);
+            self.clock.fill();
+            return true;
+        }
+        are_all(&self.arch.regs);
+        let pc = self.arch.pc;
+        let word = self.words.at(pc);
+        let Some(flow) = act_at_once(word, &mut self.arch, &mut self.memory) else {
+            return false;
+        };
+        self.flights.advance(depth, &mut self.file);
+        self.flights.begin(written(word, &self.arch));
+        self.clock.retire(word, flow, self.arch.pc);
+        self.queue.follow(flow, pc, self.arch.pc);
+        self.queue.fetch(&self.memory, self.arch.pc);
+        self.at_once = meet(
+            &mut self.words,
+            &mut self.clock,
+            &self.queue,
+            &self.arch,
+            &self.memory,
+        );
+        true
     }
 }
 
 impl<const STAGES: u8> Core for StagedCore<STAGES> {
     ghost use Rattle.pipe_latch.specs.Cores.{staged_state};
-    ghost use Rattle.std.specs.Prelude.{refl};
+    ghost use Rattle.std.proofs.Common.{sym};
 
     ghost state = { staged_state };
 
+    #[inline(never)]
     fn tick<P: Ports>(&mut self, ports: &mut P) -> Tick {
-        let i = instr_of(&self.here);
-        let in_slot = self.arch.slot.is_some();
-        let early = self.clock.is_early(i, in_slot);
-        let fills = fills(early, &self.here, &self.arch, ports);
-        let operands = self.flights.operands(&self.arch.regs, &self.here);
+        let here = self.words.here_at(&self.arch, &self.memory);
+        let fills = fills(self.clock.holds(), &here, &self.arch, ports);
+        let operands = self.flights.operands(&self.file, &here);
         let depth = self.clock.depth();
-        self.flights.advance(depth, &mut self.arch.regs);
-        self.queue.fetch(&self.memory, self.arch.pc);
+        self.flights.advance(depth, &mut self.file);
         if fills {
-            self.clock.fill(i, in_slot);
+            self.queue.fetch(&self.memory, self.arch.pc);
+            self.clock.fill();
             return Tick::Filling;
         }
         let pc = self.arch.pc;
-        match act(
-            &self.here,
-            &operands,
-            &mut self.arch,
-            &mut self.memory,
-            ports,
-        ) {
+        match act(&here, &operands, &mut self.arch, &mut self.memory, ports) {
             Outcome::Did(done) => {
+                self.arch.write_back(done.write);
                 self.flights.begin(done.write);
-                self.clock.act(&self.here, &done, self.arch.pc);
-                self.queue.follow(&done, pc, self.arch.pc);
-                self.here = self.queue.decode(&self.arch, &self.memory);
-                let next = instr_of(&self.here);
-                self.clock.restart(next, self.arch.slot.is_some());
+                self.clock.act(&here, &done, self.arch.pc);
+                self.queue.follow(flow_of(&done), pc, self.arch.pc);
+                self.queue.fetch(&self.memory, self.arch.pc);
+                self.at_once = meet(
+                    &mut self.words,
+                    &mut self.clock,
+                    &self.queue,
+                    &self.arch,
+                    &self.memory,
+                );
                 Tick::Acted(done.act)
             }
             Outcome::Idle(idle) => {
-                self.clock.stay(i, in_slot);
-                rest_of(idle, &self.here, &self.arch, ports)
+                self.at_once = false;
+                self.queue.fetch(&self.memory, self.arch.pc);
+                self.clock.stay();
+                rest_of(idle, &here, &self.arch, ports)
             }
         }
     }
 
+    #[inline(always)]
     fn tick_at_once(&mut self) -> bool {
-        false
+        self.at_once && self.go()
     }
 
     fn arch(&self) -> Arch {
-        let mut arch = self.arch;
-        for flight in self.flights.items.iter() {
-            arch.regs[flight.reg as usize] = flight.value;
-        }
-        arch
+        self.arch
     }
 
     fn acts(&self) -> u64 {
@@ -151,11 +262,11 @@ impl<const STAGES: u8> Core for StagedCore<STAGES> {
     }
 
     fn file(&self, reg: u8) -> u32 {
-        self.arch.regs[reg as usize]
+        self.file[reg as usize]
     }
 
     fn flight(&self, k: usize) -> Option<Flight> {
-        self.flights.items.get(k).copied()
+        self.flights.flight(k)
     }
 
     fn settle(&self, reg: u8) -> u8 {
@@ -171,8 +282,15 @@ impl<const STAGES: u8> Core for StagedCore<STAGES> {
     }
 
     fn idle<P: Sees>(&self, ports: &P) -> Option<Idle> {
-        idle_at(&self.arch(), &self.here, ports)
+        if self.at_once {
+            return None;
+        }
+        idle_at(
+            &self.arch,
+            &self.words.here_at(&self.arch, &self.memory),
+            ports,
+        )
     }
 
-    ghost split = { λ c. refl };
+    ghost split = { λ c. sym c.forwarded };
 }

@@ -28,7 +28,7 @@ taken_by : (a : Arch) (s : Shown) (b : Bool) → is_offered s ≡ false → take
 taken_by a s true e = nothing_picked s.line s.breaks.maskable s.breaks.nonmaskable (not (is_masked a)) (interrupts_on a) (not (is_masked a)) e
 taken_by a s false e = refl
 
-nothing_taken : (here : Option Here) (a : Arch) (s : Shown) → is_offered s ≡ false → take_due here a s ≡ None
+pub nothing_taken : (here : Option Here) (a : Arch) (s : Shown) → is_offered s ≡ false → take_due here a s ≡ None
 unfolding take_due
 nothing_taken here a s e = taken_by a s (may_take a (is_atomic_here here)) e
 

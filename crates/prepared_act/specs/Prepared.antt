@@ -1,12 +1,12 @@
 -- What can be told of a word before its act.
-use Rattle.std.specs.Prelude.{◌≡◌, ℕ, ◌==◌, ◌&&◌, not, Bool, true, false, Option, Some, None}
+use Rattle.std.specs.Prelude.{◌≡◌, ℕ, ◌==◌, ◌&&◌, not, Bool, true, false, if◌then◌else◌, Option, Some, None}
 use Rattle.mb_word.specs.Word.{sign_extend_16}
 use Rattle.mb_decode.specs.declared.instruction.Instr.{Instr}
 use Rattle.mb_decode.specs.Meaning.{NamesRegisters, meaning}
 use Rattle.isa_step.specs.Wants.{end_word}
 use Rattle.isa_step.specs.declared.acts.Late.{Late}
 use Rattle.op_table.specs.declared.kinds.Kind.{Kind}
-use Rattle.op_table.specs.declared.kinds.Kind.TheVariants.{Divide, Cache, MoveFrom, MoveToMsr, SetMsr, ClearMsr, Break, Barrier, Return, Get, Put}
+use Rattle.op_table.specs.declared.kinds.Kind.TheVariants.{Divide, Cache, MoveFrom, MoveToMsr, SetMsr, ClearMsr, Branch, BranchIf, Break, Barrier, Return, Prefix, Store, Get, Put}
 use Rattle.op_table.specs.declared.kinds.Return.{Return as From}
 use Rattle.op_table.specs.declared.kinds.Return.TheVariants as ret
 use Rattle.op_table.specs.declared.kinds.Second.{Second}
@@ -48,6 +48,15 @@ is_inner (Return from) = is_return from
 is_inner (Get dynamic) = false
 is_inner (Put dynamic) = false
 is_inner _ = true
+
+-- the register that an inner act writes, and 0 where it writes none
+unfoldable pub result_register : Kind → ℕ → ℕ
+result_register (Store size) rd = 0
+result_register Prefix rd = 0
+result_register (BranchIf condition delayed) rd = 0
+result_register (Return from) rd = 0
+result_register (Branch absolute delayed linked) rd = if linked then rd else 0
+result_register _ rd = rd
 
 -- the word means the instruction, is not the end of a program, and its kind is inner
 pub record IsInner (word : ℕ) (i : Instr) : Type 0 where

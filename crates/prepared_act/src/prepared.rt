@@ -3,15 +3,17 @@
 ghost use Rattle.std.specs.Prelude.{◌≡◌, ◌<◌, ◌==◌, if◌then◌else◌, false, true, None, Some, IfSome};
 ghost use Rattle.mb_decode.specs.Meaning.{NamesRegisters, meaning};
 ghost use Rattle.op_table.specs.Table.{kind_of, second_of};
-ghost use Rattle.isa_step.specs.Wants.{belongs_into_slot, end_word};
-ghost use Rattle.prepared_act.specs.Prepared.{IsInner, extended_of, is_inner, is_return, late_register};
+ghost use Rattle.isa_step.specs.Wants.{belongs_into_slot, end_word, latency_of};
+ghost use Rattle.prepared_act.specs.Prepared.{IsInner, extended_of, is_inner, is_return, late_register, result_register};
 ghost use Rattle.isa_step.specs.Due.{met};
 
 use core_regs::Arch;
 use isa_step::{END_WORD, Here};
 use mb_decode::{Instr, decode};
 use mb_word::sign16;
-use op_table::{Kind, Op, Return, Second, belongs_into_slot, kind_of, latency_of, second_of};
+use op_table::{
+    Kind, Latency, Op, Return, Second, belongs_into_slot, kind_of, latency_of, second_of,
+};
 
 /// A word, and what of its act can be told before its operands are known: 32 bytes, so that its place in a table is found
 /// by a shift.
@@ -24,12 +26,16 @@ pub struct Prepared {
     pub is_known: bool,
     pub kind: Kind,
     pub(crate) second: Second,
+    /// Whether the instruction may stand in the slot of a branch.
+    pub(crate) fits_slot: bool,
+    /// The register that an inner act writes, and 0 where it writes none.
+    pub result: u8,
     /// The field of the second operand, as it is used where no prefix is held.
     pub(crate) extended: u32,
     /// The register that the instruction makes late, and 0 where it makes none late.
     pub late: u32,
-    /// Whether the instruction may stand in the slot of a branch.
-    pub(crate) fits_slot: bool,
+    /// How soon the register that it makes late can be used.
+    pub latency: Option<Latency>,
     /// Whether its act asks nothing of the outside, so that it mostly is done at once.
     pub is_inner: bool,
     ghost registers: { NamesRegisters instr },
@@ -38,6 +44,9 @@ pub struct Prepared {
     ghost extended_met: { extended ≡ extended_of second instr.imm },
     ghost late_met: { late ≡ late_register instr },
     ghost late_named: { late < 32 },
+    ghost latency_met: { latency ≡ latency_of (kind_of instr.op) },
+    ghost result_met: { result ≡ result_register kind instr.rd },
+    ghost result_named: { result < 32 },
     ghost slot_met: { fits_slot ≡ belongs_into_slot kind },
     ghost meant: { meaning word ≡ (if is_known then Some instr else None) },
     ghost inner: { is_inner ≡ true → IsInner word instr },
@@ -98,6 +107,23 @@ pub fn late_register(i: &Instr) -> u8
     if latency_of(i.op).is_some() { i.rd } else { 0 }
 }
 
+/// The register that an inner act of a kind writes, by its field rD, and 0 where it writes none.
+#[tactic(auto, unfolding(crate::specs::Prepared::result_register))]
+fn result_register(kind: Kind, rd: u8) -> u8
+    requires { rd < 32 }
+    ensures value { result ≡ result_register kind rd }
+    ensures named { result < 32 }
+{
+    match kind {
+        Kind::Store(_) => 0,
+        Kind::Prefix => 0,
+        Kind::BranchIf { .. } => 0,
+        Kind::Return(_) => 0,
+        Kind::Branch { linked, .. } => if linked { rd } else { 0 },
+        _ => rd,
+    }
+}
+
 /// Whether a word that means an instruction of a kind is no end of a program, and its act inner.
 fn goes_on(word: u32, kind: Kind) -> bool
     ensures { result ≡ true → ((word == end_word) ≡ false) × (is_inner kind ≡ true) }
@@ -122,6 +148,8 @@ impl Prepared {
             second,
             extended: extended_of(second, instr.imm),
             late: u32::from(late_register(&instr)),
+            result: result_register(kind, instr.rd),
+            latency: latency_of(instr.op),
             fits_slot: belongs_into_slot(instr.op),
             is_inner: goes_on,
         }

@@ -1,15 +1,17 @@
 //! The numbers of a core's past.
 
-ghost use Rattle.std.specs.Prelude.{◌≡◌, ◌<◌, ◌≤◌, ◌^◌, IfSome};
+ghost use Rattle.std.specs.Prelude.{◌≡◌, ◌<◌, ◌≤◌, ◌^◌, IfSome, Some, max};
 ghost use Rattle.std.specs.Option.{option_copied};
-ghost use Rattle.op_table.specs.Table.{kind_of};
+ghost use Rattle.isa_step.specs.Wants.{late_at, latency_of};
+ghost use Rattle.op_table.specs.Table.{is_store, kind_of};
 ghost use Rattle.mb_decode.specs.Meaning.{NamesRegisters};
-ghost use Rattle.timing_law.specs.Past.{begins_at, due_at, fresh, marked, operands_at, retired, turned, used};
+ghost use Rattle.timing_law.specs.Past.{begins_at, due_at, fetched_at, fresh, marked, operands_at, retired, turned, used};
 ghost use Rattle.timing_law.specs.Table.{extra_for, late_of};
 
 use crate::pipe::{Jump, Pipe};
-use isa_step::{Late, kind_of, latency_of};
+use isa_step::{Kind, Late, Latency, kind_of, latency_of};
 use mb_decode::Instr;
+use op_table::is_store;
 
 /// What times the next act of a core, in ticks of the core from 0 on.
 #[derive(Clone, Copy, Debug, PartialEq, Eq)]
@@ -32,6 +34,19 @@ fn used(reads: bool, number: u64) -> u64
     if reads { number } else { 0 }
 }
 
+/// The tick from which an instruction can use each register that it reads, by whether it stores.
+#[tactic(auto, unfolding(crate::specs::Past::operands_at))]
+#[inline(always)]
+fn operands_of(i: &Instr, stores: bool, ready: &[u64; 32]) -> u64
+    requires names { NamesRegisters i.now }
+    requires store { stores ≡ is_store i.now.op }
+    ensures { result ≡ operands_at (Some i.now) ready.now }
+{
+    used(i.ra != 0, ready[i.ra as usize])
+        .max(used(i.rb != 0, ready[i.rb as usize]))
+        .max(used(i.rd != 0 && stores, ready[i.rd as usize]))
+}
+
 /// The tick from which an instruction can use each register that it reads.
 #[tactic(auto, unfolding(crate::specs::Past::operands_at))]
 pub fn operands_at(i: Option<&Instr>, ready: &[u64; 32]) -> u64
@@ -39,10 +54,21 @@ pub fn operands_at(i: Option<&Instr>, ready: &[u64; 32]) -> u64
     ensures { result ≡ operands_at (option_copied i.entry) ready.now }
 {
     match i {
-        Some(i) => used(i.reads_a(), ready[i.ra as usize])
-            .max(used(i.reads_b(), ready[i.rb as usize]))
-            .max(used(i.reads_d(), ready[i.rd as usize])),
+        Some(i) => operands_of(i, is_store(i.op), ready),
         None => 0,
+    }
+}
+
+/// The register that an instruction of a latency makes late.
+#[inline(always)]
+fn late_as(rd: u8, latency: Option<Latency>) -> Option<Late>
+    requires { rd < 32 }
+    ensures value { result ≡ late_at rd latency }
+    ensures names { IfSome result (λ l. l.reg < 32) }
+{
+    match latency {
+        Some(latency) if rd != 0 => Some(Late { reg: rd, latency }),
+        _ => None,
     }
 }
 
@@ -52,10 +78,7 @@ pub fn late_of(i: &Instr) -> Option<Late>
     ensures value { result ≡ late_of i.now }
     ensures names { IfSome result (λ l. l.reg < 32) }
 {
-    match latency_of(i.op) {
-        Some(latency) if i.rd != 0 => Some(Late { reg: i.rd, latency }),
-        _ => None,
-    }
+    late_as(i.rd, latency_of(i.op))
 }
 
 impl Past {
@@ -72,16 +95,31 @@ impl Past {
         }
     }
 
+    /// The tick from which an instruction whose operands are ready in a tick may begin.
+    #[inline(always)]
+    fn begins_with(&self, operands: u64, in_slot: bool) -> u64
+        ensures { result ≡ max (max (fetched_at self.now in_slot) self.now.next) operands }
+    {
+        let redirect = if in_slot { 0 } else { self.redirect };
+        self.first.max(redirect).max(self.next).max(operands)
+    }
+
     /// The tick from which an instruction may begin: it acts when its further ticks have passed.
     pub fn begins(&self, i: Option<&Instr>, in_slot: bool) -> u64
         requires { IfSome (option_copied i) NamesRegisters }
         ensures { result ≡ begins_at self.now (option_copied i.entry) in_slot }
     {
-        let redirect = if in_slot { 0 } else { self.redirect };
-        self.first
-            .max(redirect)
-            .max(self.next)
-            .max(operands_at(i, &self.ready))
+        self.begins_with(operands_at(i, &self.ready), in_slot)
+    }
+
+    /// The same of an instruction of which it is known whether it stores.
+    #[inline(always)]
+    pub fn begins_by(&self, i: &Instr, stores: bool, in_slot: bool) -> u64
+        requires names { NamesRegisters i.now }
+        requires store { stores ≡ is_store i.now.op }
+        ensures { result ≡ begins_at self.now (Some i.now) in_slot }
+    {
+        self.begins_with(operands_of(i, stores, &self.ready), in_slot)
     }
 
     /// The tick from which an instruction may act; `None` is an act whose word isn't there or doesn't decode. The word in
@@ -112,9 +150,27 @@ impl Past {
         requires young { at < 2 ^ 63 }
         ensures { self.new ≡ retired i.now at jump self.old }
     {
-        let kind = kind_of(i.op);
+        self.retired_as(i, kind_of(i.op), latency_of(i.op), at, jump);
+    }
+
+    /// The same of an instruction whose kind and latency are known.
+    #[inline(always)]
+    pub fn retired_as(
+        &mut self,
+        i: &Instr,
+        kind: Kind,
+        latency: Option<Latency>,
+        at: u64,
+        jump: Jump,
+    )
+        requires names { NamesRegisters i.now }
+        requires kind { kind ≡ kind_of i.now.op }
+        requires latency { latency ≡ latency_of (kind_of i.now.op) }
+        requires young { at < 2 ^ 63 }
+        ensures { self.new ≡ retired i.now at jump self.old }
+    {
         self.next = at + u64::from(self.pipe.hold(kind));
-        self.mark(late_of(i), at);
+        self.mark(late_as(i.rd, latency), at);
         match jump {
             Jump::On => {}
             Jump::Taken => self.redirect = at + u64::from(self.pipe.branch()),

@@ -1,20 +1,13 @@
-use Rattle.std.proofs.Common.{arith, subst, sym}
-use Rattle.pipe_latch.specs.Latches.{InFlight}
-use Rattle.pipe_latch.proofs.FlightLemmas.{in_flight_at, later_step, file_step, all_passed}
+use Rattle.std.proofs.Common.{ℕ, ◌≡◌, ◌+◌, ◌-◌, ◌≤◌, arith, subst}
+use Rattle.pipe_latch.specs.Latches.{InStages}
+use Rattle.pipe_latch.proofs.FlightLemmas.{stages_within}
 use Rattle.pipe_latch.proofs.in_flight.Flights.advance.Goals as goal
 
-pub pass_tick-requires-clause-flight : goal.pass_tick-requires-clause-flight
-pass_tick-requires-clause-flight c =
-    let at = in_flight_at 0 c.args.depth c.deref-flight-items.result.now (subst (λ fs. InFlight 0 c.args.depth fs) (sym c.deref-flight-items.ensures.0) c.requires.ages) c.loop-flight.flight-index _ c.loop-flight-test.true in
-    (at.0, omega (arith, at.1, c.requires.depth))
+last_of : (d : ℕ) → 1 ≤ d → d - 1 + 1 ≡ d
+last_of d le = omega (arith, le)
 
-pub loop-flight-preserved : goal.loop-flight-preserved
-loop-flight-preserved c = record {
-  later = later_step c.args.depth c.loop-flight.flight-index c.deref-flight-items.result.now _ _ _ c.loop-flight-test.true c.loop-flight.invariant.later c.pass_tick.ensures.later;
-  file = file_step c.args.depth c.loop-flight.flight-index c.deref-flight-items.result.now _ _ _ _ c.loop-flight-test.true c.loop-flight.invariant.file c.pass_tick.ensures.file;
-  room = omega (arith, c.loop-flight.invariant.room, c.pass_tick.ensures.room);
-}
+pub shift-requires : goal.shift-requires
+shift-requires c = stages_within (c.args.depth - 1) 4 0 c.land.new.self.stages c.land.ensures.stages (omega (arith, c.requires.depth.1))
 
-pub returns-clause-ages : goal.returns-clause-ages
-returns-clause-ages c = all_passed c.args.depth c.loop-flight.flight-index c.deref-flight-items.result.now c.args.self.now.items.items _
-    c.deref-flight-items.ensures.0 c.loop-flight.invariant.later c.loop-flight-test.false c.requires.ages c.requires.depth.0
+pub returns-clause-stages : goal.returns-clause-stages
+returns-clause-stages c = subst (λ d. InStages d 0 c.shift.new.self.stages) (last_of c.args.depth c.requires.depth.0) (c.shift.ensures.stages (c.args.depth - 1) c.land.ensures.stages)
