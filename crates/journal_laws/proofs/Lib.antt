@@ -1,0 +1,4 @@
+pub mod Lists
+pub mod Links
+pub mod Asking
+pub mod LinkRuns

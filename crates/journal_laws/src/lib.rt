@@ -1,0 +1,13 @@
+//! Three laws that are read off a journal, whatever program wrote it: the link law, the take law and the progress bound.
+//!
+//! Each is stated over entries and rows of the board file alone (`specs/`), so that a journal file can be checked against
+//! it by hand. There is no code here: each function is a law of the board machine, whose statement is its clause.
+#![tactic(auto)]
+
+ghost use Rattle.journal_laws.specs.Laws.{LinkLawHolds};
+
+/// The journal of every run, also under events in any order, has the link law.
+#[tactic(auto, using(crate::proofs::LinkRuns::link_law_holds))]
+pub fn link_law_holds()
+    ensures { LinkLawHolds }
+{}
