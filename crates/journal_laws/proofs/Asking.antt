@@ -1,5 +1,5 @@
 -- What an act says of links is what its core was shown.
-use Rattle.std.proofs.Common.{◌≡◌, ℕ, List, Option, Some, None, refl, sym, subst, Bool, true, false, ◌&&◌}
+use Rattle.std.proofs.Common.{inl, inr, ◌⊎◌, ◌≡◌, ℕ, List, Option, Some, None, refl, sym, subst, Bool, true, false, ◌&&◌}
 use Rattle.std.specs.Prelude.{if◌then◌else◌, not, is_some}
 use Rattle.std.proofs.lemmas.Option.{same_Some}
 use Rattle.axi_link.specs.declared.item.Item.{Item}
@@ -26,7 +26,7 @@ use Rattle.op_table.specs.declared.kinds.Kind.TheVariants.{Divide, BranchIf, Bar
 use Rattle.op_table.specs.Kinds.{belongs_into_slot}
 use Rattle.op_table.specs.Table.{kind_of}
 use Rattle.isa_step.specs.Deeds.{View, Deed, Due, Does, Waits, Ends, Want, Goes, Homes, Gets, Puts, Reads, Writes, faults, raises, stops}
-use Rattle.isa_step.specs.Due.{awake, by_item, by_room, due, due_by, due_with, here_of, is_closed, reply, take_due}
+use Rattle.isa_step.specs.Due.{awake, by_item, by_room, due, due_by, due_with, here_of, is_closed, reply, take_due, takes}
 use Rattle.isa_step.specs.Arithmetic.{divided}
 use Rattle.isa_step.specs.Branches.{branches_if, holds}
 use Rattle.isa_step.specs.Special.{is_sleep}
@@ -35,15 +35,16 @@ use Rattle.isa_step.specs.Loads.{address, is_aligned, keeps, loads, loads_at, lo
 use Rattle.isa_step.specs.Shown.{Shown}
 use Rattle.isa_step.specs.Wants.{comes_home, deed_of, effect, given, illegal, is_banned, is_end, operands_of, wants, wants_instr, wants_kind}
 use Rattle.run_journal.specs.declared.entry.What.{What}
-use Rattle.run_journal.specs.declared.entry.What.TheVariants.{Got, Sent, Seen, Room, Missed, Wait, HostSent, HostGot}
+use Rattle.run_journal.specs.declared.entry.What.TheVariants.{Got, Sent, Seen, Room, Missed, Took, Wait, HostSent, HostGot}
 use Rattle.board_machine.specs.Fabric.{entries_of_action, entry_of_action}
+use Rattle.machine_laws.specs.Silence.{IsAwake}
 
 -- a port showed no item, or no room
 abbrev pub ShowsNone : Shown → ℕ → Bool → Type 0
 ShowsNone s port true = s.room port ≡ false
 ShowsNone s port false = s.first port ≡ None
 
--- an entry of a core says of links what the core was shown
+-- an entry of an instruction says of links what the core was shown
 abbrev pub Agrees : Shown → What → Type 0
 Agrees s (Got port item) = s.first port ≡ Some item
 Agrees s (Seen port item) = s.first port ≡ Some item
@@ -51,6 +52,7 @@ Agrees s (Sent port item) = s.room port ≡ true
 Agrees s (Room port) = s.room port ≡ true
 Agrees s (Missed port full) = ShowsNone s port full
 Agrees s (Wait on) = ShowsNone s on.port on.full
+Agrees s (Took t) = ⊥
 Agrees s (HostSent link item) = ⊥
 Agrees s (HostGot link item) = ⊥
 Agrees s _ = Unit {0}
@@ -62,7 +64,7 @@ AgreesIf s (Some what) = Agrees s what
 abbrev DeedAgrees : Shown → Deed → Type 0
 DeedAgrees s d = AgreesIf s (entries_of_action d.action)
 
-abbrev pub DueAgrees : Shown → Due → Type 0
+abbrev DueAgrees : Shown → Due → Type 0
 DueAgrees s (Does deed) = DeedAgrees s deed
 DueAgrees s (Waits port full) = ShowsNone s port full
 DueAgrees s _ = Unit {0}
@@ -232,11 +234,40 @@ awake_agrees : (here : Option Here) (o : Operands) (a : Arch) (m : List ℕ) (s 
 awake_agrees here o a m s true = tt
 awake_agrees here o a m s false = reply_agrees a (wants here o a m) s (want_agrees here o a m)
 
-by_agrees : (here : Option Here) (o : Operands) (a : Arch) (m : List ℕ) (s : Shown) (t : Option Take) (c : Option StopCause) → DueAgrees s (due_by here o a m s t c)
-by_agrees here o a m s t (Some cause) = tt
-by_agrees here o a m s (Some t) None = tt
-by_agrees here o a m s None None = awake_agrees here o a m s a.asleep
+-- an act is a take that is due, or an instruction's where none is
+pub record IsTake (v : View) (s : Shown) (deed : Deed) : Type 0 where
+  pub take : Take
+  pub due : take_due (here_of v) (bare v.arch) s ≡ Some take
+  pub is : deed ≡ takes (bare v.arch) take
 
-pub due_agrees : (v : View) (s : Shown) → DueAgrees s (due v s)
+pub record IsInstruction (v : View) (s : Shown) (deed : Deed) : Type 0 where
+  pub due : take_due (here_of v) (bare v.arch) s ≡ None
+  pub awake : IsAwake v
+  pub agrees : AgreesIf s (entries_of_action deed.action)
+
+instruction_by : (v : View) (s : Shown) (deed : Deed) (asleep : Bool) → take_due (here_of v) (bare v.arch) s ≡ None → v.arch.stopped ≡ None → v.arch.asleep ≡ asleep → awake (here_of v) (operands_of (here_of v) v.arch.regs) (bare v.arch) v.memory s asleep ≡ Does deed → IsInstruction v s deed
+instruction_by v s deed true e c a h = cc
+instruction_by v s deed false e c a h = record {
+  due = e;
+  awake = record { asleep = a; stopped = c };
+  agrees = subst (DueAgrees s) h (awake_agrees (here_of v) (operands_of (here_of v) v.arch.regs) (bare v.arch) v.memory s false);
+}
+
+split_by : (v : View) (s : Shown) (deed : Deed) (t : Option Take) (c : Option StopCause) → take_due (here_of v) (bare v.arch) s ≡ t → v.arch.stopped ≡ c → due_by (here_of v) (operands_of (here_of v) v.arch.regs) (bare v.arch) v.memory s t c ≡ Does deed → IsTake v s deed ⊎ IsInstruction v s deed
+split_by v s deed t (Some cause) e c h = cc
+split_by v s deed (Some t) None e c h = inl (record { take = t; due = e; is = cc })
+split_by v s deed None None e c h = inr (instruction_by v s deed v.arch.asleep e c refl h)
+
+pub act_splits : (v : View) (s : Shown) (deed : Deed) → due v s ≡ Does deed → IsTake v s deed ⊎ IsInstruction v s deed
 unfolding due_with
-due_agrees v s = by_agrees (here_of v) (operands_of (here_of v) v.arch.regs) (bare v.arch) v.memory s (take_due (here_of v) (bare v.arch) s) v.arch.stopped
+act_splits v s deed h = split_by v s deed (take_due (here_of v) (bare v.arch) s) v.arch.stopped refl refl h
+
+-- a wait is at a port that showed nothing
+wait_by : (v : View) (s : Shown) (port : ℕ) (full : Bool) (t : Option Take) (c : Option StopCause) → due_by (here_of v) (operands_of (here_of v) v.arch.regs) (bare v.arch) v.memory s t c ≡ Waits port full → ShowsNone s port full
+wait_by v s port full t (Some cause) h = cc
+wait_by v s port full (Some t) None h = cc
+wait_by v s port full None None h = subst (DueAgrees s) h (awake_agrees (here_of v) (operands_of (here_of v) v.arch.regs) (bare v.arch) v.memory s v.arch.asleep)
+
+pub wait_shows : (v : View) (s : Shown) (port : ℕ) (full : Bool) → due v s ≡ Waits port full → ShowsNone s port full
+unfolding due_with
+wait_shows v s port full h = wait_by v s port full (take_due (here_of v) (bare v.arch) s) v.arch.stopped h

@@ -2,6 +2,7 @@
 use Rattle.std.proofs.Common.{◌≡◌, ℕ, zero, suc, List, [], ◌∷◌, length, map, Option, Some, None, refl, ap, sym, ◌∙◌, subst, inl, inr, slice_get, Bool, true, false, cond}
 use Rattle.axi_link.specs.declared.item.Item.{Item}
 use Rattle.axi_link.specs.Channel.{Channel, empty}
+use Rattle.core_regs.specs.declared.causes.Take.{Take}
 use Rattle.core_regs.specs.declared.causes.WaitOn.{WaitOn}
 use Rattle.uart_lite.specs.Machine.{leaving}
 use Rattle.isa_step.specs.declared.acts.Act.{Act}
@@ -13,7 +14,7 @@ use Rattle.board_file.specs.declared.board.BoardFile.{BoardFile}
 use Rattle.board_file.specs.declared.board.LinkRow.{LinkRow}
 use Rattle.run_journal.specs.declared.entry.Entry.{Entry}
 use Rattle.run_journal.specs.declared.entry.What.{What}
-use Rattle.run_journal.specs.declared.entry.What.TheVariants.{Got, Sent, Seen, Room, Missed, Wait, HostSent, HostGot}
+use Rattle.run_journal.specs.declared.entry.What.TheVariants.{Got, Sent, Seen, Room, Missed, Took, Wait, HostSent, HostGot}
 use Rattle.board_machine.specs.declared.events.Event.{Event}
 use Rattle.board_machine.specs.declared.events.Event.TheVariants.{Devices, Host, Tick, Next}
 use Rattle.board_machine.specs.declared.events.HostPart.{HostPart}
@@ -26,7 +27,7 @@ use Rattle.board_machine.proofs.DeviceSteps.{order_keeps}
 use Rattle.board_machine.proofs.Lasting.{step_kept}
 use Rattle.journal_laws.specs.LinkLaw.{LinkLaw, MayStand}
 use Rattle.journal_laws.specs.Laws.{LinkLawHolds}
-use Rattle.journal_laws.proofs.Asking.{Agrees, AgreesIf, DueAgrees, ShowsNone, due_agrees}
+use Rattle.journal_laws.proofs.Asking.{Agrees, AgreesIf, ShowsNone, act_splits, wait_shows}
 use Rattle.journal_laws.proofs.Links.{Lawful, entry_lawful, start_lawful, stands_empty, stands_first, stands_full, stands_room}
 
 abbrev pub LawfulIn : Fabric → Type 0
@@ -45,6 +46,7 @@ agrees_stands f core (Sent port item) k h = stands_room f.rows f.links f.journal
 agrees_stands f core (Room port) k h = stands_room f.rows f.links f.journal (link_from f.rows core port) k.linked h
 agrees_stands f core (Missed port full) k h = none_stands f core port full k h
 agrees_stands f core (Wait on) k h = none_stands f core on.port on.full k h
+agrees_stands f core (Took t) k h = elim h [ ]
 agrees_stands f core (HostSent link item) k h = elim h [ ]
 agrees_stands f core (HostGot link item) k h = elim h [ ]
 agrees_stands f core _ k h = tt
@@ -81,16 +83,25 @@ wait_lawful : (core act : ℕ) (on : WaitOn) (f : Fabric) (kept : Bool) → Show
 wait_lawful core act on f true h k = k
 wait_lawful core act on f false h k = entered_lawful core act (Wait on) f (none_stands f core on.port on.full k h) k
 
-tick_lawful : (core : ℕ) (d : Due) (old : CoreAt) (before : Fabric) (new : CoreAt) (later : Fabric) → DueAgrees (shown before core) d → TickMay core d old before new later → LawfulIn before → LawfulIn later
-tick_lawful core (Does deed) old before new later h (inl a) k = subst LawfulIn (sym a.fabric) (act_lawful core old.acts deed before h k)
-tick_lawful core (Does deed) old before new later h (inr i) k = subst LawfulIn (sym i.fabric) k
-tick_lawful core (Waits port full) old before new later h (inl i) k =
+took_lawful : (core act : ℕ) (t : Take) (f : Fabric) → LawfulIn f → LawfulIn (entered core act (Took t) f)
+took_lawful core act t f k = entered_lawful core act (Took t) f tt k
+
+done_lawful : (core act : ℕ) (v : View) (deed : Deed) (f : Fabric) → due v (shown f core) ≡ Does deed → LawfulIn f → LawfulIn (act_leaves core act deed f)
+done_lawful core act v deed f e k = elim (act_splits v (shown f core) deed e) [
+  | inl t ↦ subst (λ deed. LawfulIn (act_leaves core act deed f)) (sym t.is) (took_lawful core act t.take f k)
+  | inr i ↦ act_lawful core act deed f i.agrees k
+]
+
+tick_lawful : (core : ℕ) (d : Due) (old : CoreAt) (before : Fabric) (new : CoreAt) (later : Fabric) → due old.view (shown before core) ≡ d → TickMay core d old before new later → LawfulIn before → LawfulIn later
+tick_lawful core (Does deed) old before new later e (inl a) k = subst LawfulIn (sym a.fabric) (done_lawful core old.acts old.view deed before e k)
+tick_lawful core (Does deed) old before new later e (inr i) k = subst LawfulIn (sym i.fabric) k
+tick_lawful core (Waits port full) old before new later e (inl i) k =
     let on : WaitOn = record { port = port; full = full } in
-    subst LawfulIn (sym i.fabric) (wait_lawful core old.acts on before (is_kept core old.acts before.journal) h k)
-tick_lawful core (Waits port full) old before new later h (inr i) k = subst LawfulIn (sym i.fabric) k
-tick_lawful core Sleeps old before new later h i k = subst LawfulIn (sym i.fabric) k
-tick_lawful core Ends old before new later h i k = subst LawfulIn (sym i.fabric) k
-tick_lawful core (Stops cause) old before new later h i k = subst LawfulIn (sym i.fabric) k
+    subst LawfulIn (sym i.fabric) (wait_lawful core old.acts on before (is_kept core old.acts before.journal) (wait_shows old.view (shown before core) port full e) k)
+tick_lawful core (Waits port full) old before new later e (inr i) k = subst LawfulIn (sym i.fabric) k
+tick_lawful core Sleeps old before new later e i k = subst LawfulIn (sym i.fabric) k
+tick_lawful core Ends old before new later e i k = subst LawfulIn (sym i.fabric) k
+tick_lawful core (Stops cause) old before new later e i k = subst LawfulIn (sym i.fabric) k
 
 -- the host's moves
 
@@ -173,7 +184,7 @@ pub step_lawful : (w v : World) (e : Event) → Step w e v → LawfulIn w.fabric
 unfolding KeepsLaw
 step_lawful w v Devices h k = subst (λ (v : World). LawfulIn v.fabric) (sym h) (done_keeps w.cores w.fabric k)
 step_lawful w v Host h k = subst (λ (v : World). LawfulIn v.fabric) (sym h) (host_lawful w.fabric (length w.fabric.rows) k)
-step_lawful w v (Tick core) h k = tick_lawful core (due h.was.view (shown w.fabric core)) h.was w.fabric h.is v.fabric (due_agrees h.was.view (shown w.fabric core)) h.may k
+step_lawful w v (Tick core) h k = tick_lawful core (due h.was.view (shown w.fabric core)) h.was w.fabric h.is v.fabric refl h.may k
 step_lawful w v Next h k = subst (λ (v : World). LawfulIn v.fabric) (sym h) k
 
 pub steps_lawful : (w v : World) (es : List Event) → Steps w es v → LawfulIn w.fabric → LawfulIn v.fabric

@@ -1,2 +1,3 @@
 pub mod LinkLaw
+pub mod TakeLaw
 pub mod Laws

@@ -4,10 +4,16 @@
 //! it by hand. There is no code here: each function is a law of the board machine, whose statement is its clause.
 #![tactic(auto)]
 
-ghost use Rattle.journal_laws.specs.Laws.{LinkLawHolds};
+ghost use Rattle.journal_laws.specs.Laws.{LinkLawHolds, TakeLawHolds};
 
 /// The journal of every run, also under events in any order, has the link law.
 #[tactic(auto, using(crate::proofs::LinkRuns::link_law_holds))]
 pub fn link_law_holds()
     ensures { LinkLawHolds }
+{}
+
+/// In the journal of every run, also under events in any order, each core has the take law.
+#[tactic(auto, using(crate::proofs::TakeRuns::take_law_holds))]
+pub fn take_law_holds()
+    ensures { TakeLawHolds }
 {}
