@@ -9,20 +9,10 @@ use Rattle.board_machine.specs.Places.{set_some, touch}
 use Rattle.board_machine.specs.Fabric.{Fabric, breaks_come, flagged, given, has_come, is_break, is_to_come, next_cycle, or_none}
 use Rattle.board_machine.proofs.Lists.{and_left, and_right, slice_get_set_same, slice_get_set_other}
 use Rattle.journal_laws.specs.TakeLaw.{breaks_of, has_break}
+use Rattle.journal_laws.proofs.Truths.{or_cases, or_left, or_right}
 use Rattle.journal_laws.proofs.Takes.{Account, as_one, flag_at, flag_of}
 
-or_cases : (a b : Bool) → a || b ≡ true → (a ≡ true) ⊎ (b ≡ true)
-or_cases true b h = inl refl
-or_cases false b h = inr h
-
-or_left : (a b : Bool) → a ≡ true → a || b ≡ true
-or_left a b e = rw e refl
-
-or_right : (a b : Bool) → b ≡ true → a || b ≡ true
-or_right true b e = refl
-or_right false b e = e
-
-any_more : (p q : EventRow → Bool) (rs : List EventRow) → ((r : EventRow) → p r ≡ true → q r ≡ true) → list_any p rs ≡ true → list_any q rs ≡ true
+pub any_more : (p q : EventRow → Bool) (rs : List EventRow) → ((r : EventRow) → p r ≡ true → q r ≡ true) → list_any p rs ≡ true → list_any q rs ≡ true
 any_more p q [] i h = h
 any_more p q (r ∷ rs) i h = elim (or_cases (p r) (list_any p rs) h) [
   | inl e ↦ or_left (q r) (list_any q rs) (i r e)
@@ -80,7 +70,7 @@ one_given core kind pending r h = elim (raised_at r.nonmaskable r.core core pend
 
 -- all breaks that come
 
-all_given : (core : ℕ) (kind : Bool) (rs : List EventRow) (pending : List Breaks) → flag_at (fold given pending rs) core kind ≡ true → (flag_at pending core kind ≡ true) ⊎ (list_any (is_break core kind) rs ≡ true)
+pub all_given : (core : ℕ) (kind : Bool) (rs : List EventRow) (pending : List Breaks) → flag_at (fold given pending rs) core kind ≡ true → (flag_at pending core kind ≡ true) ⊎ (list_any (is_break core kind) rs ≡ true)
 all_given core kind [] pending h = inl h
 all_given core kind (r ∷ rs) pending h = elim (all_given core kind rs (given pending r) h) [
   | inr a ↦ inr (or_right (is_break core kind r) (list_any (is_break core kind) rs) a)
@@ -147,7 +137,7 @@ kept_by p q r rs true e ih h = elim (or_cases (p r) (list_any p (filter q rs)) (
   | inr x ↦ or_right (p r) (list_any p rs) (ih x)
 ]
 
-any_kept : (p q : EventRow → Bool) (rs : List EventRow) → list_any p (filter q rs) ≡ true → list_any p rs ≡ true
+pub any_kept : (p q : EventRow → Bool) (rs : List EventRow) → list_any p (filter q rs) ≡ true → list_any p rs ≡ true
 any_kept p q [] h = h
 any_kept p q (r ∷ rs) h = kept_by p q r rs (q r) refl (any_kept p q rs) h
 

@@ -1,3 +1,4 @@
+pub mod Truths
 pub mod Lists
 pub mod Links
 pub mod Asking
@@ -6,3 +7,11 @@ pub mod Takes
 pub mod TakeActs
 pub mod BreaksCome
 pub mod TakeRuns
+pub mod Outcomes
+pub mod Gone
+pub mod Pace
+pub mod Paces
+pub mod PaceTicks
+pub mod PaceRuns
+pub mod Orders
+pub mod PaceCycles

@@ -35,7 +35,7 @@ LawfulIn f = Lawful f.rows f.links f.journal
 
 -- what agrees with what a fabric shows stands in its journal
 
-none_stands : (f : Fabric) (core port : ℕ) (full : Bool) → LawfulIn f → ShowsNone (shown f core) port full → MayStand f.rows f.journal core (Missed port full)
+pub none_stands : (f : Fabric) (core port : ℕ) (full : Bool) → LawfulIn f → ShowsNone (shown f core) port full → MayStand f.rows f.journal core (Missed port full)
 none_stands f core port true k h = stands_full f.rows f.links f.journal core port k.linked h
 none_stands f core port false k h = stands_empty f.rows f.links f.journal core port k.linked h
 

@@ -100,7 +100,7 @@ touch_other : {X : Type 0} (g : X → X) (k core : ℕ) (xs : List X) (o : Optio
 touch_other g k core xs None e n = refl
 touch_other g k core xs (Some x) e n = slice_get_set_other xs core k (g x) (λ s. n (sym s))
 
-pending_other : (by core : ℕ) (what : What) (pending : List Breaks) → (by ≡ core → ⊥) → slice_get (pending_after by what pending) core ≡ slice_get pending core
+pub pending_other : (by core : ℕ) (what : What) (pending : List Breaks) → (by ≡ core → ⊥) → slice_get (pending_after by what pending) core ≡ slice_get pending core
 pending_other by core (Took t) pending n = touch_other (cleared t) by core pending (slice_get pending by) refl n
 pending_other by core _ pending n = refl
 

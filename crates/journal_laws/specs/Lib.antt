@@ -1,3 +1,4 @@
 pub mod LinkLaw
 pub mod TakeLaw
+pub mod Progress
 pub mod Laws

@@ -4,7 +4,7 @@
 //! it by hand. There is no code here: each function is a law of the board machine, whose statement is its clause.
 #![tactic(auto)]
 
-ghost use Rattle.journal_laws.specs.Laws.{LinkLawHolds, TakeLawHolds};
+ghost use Rattle.journal_laws.specs.Laws.{LinkLawHolds, ProgressBoundHolds, TakeLawHolds};
 
 /// The journal of every run, also under events in any order, has the link law.
 #[tactic(auto, using(crate::proofs::LinkRuns::link_law_holds))]
@@ -16,4 +16,10 @@ pub fn link_law_holds()
 #[tactic(auto, using(crate::proofs::TakeRuns::take_law_holds))]
 pub fn take_law_holds()
     ensures { TakeLawHolds }
+{}
+
+/// The journal of every run by cycles has the progress bound, and at its end each core that goes on has it.
+#[tactic(auto, using(crate::proofs::PaceCycles::progress_bound_holds))]
+pub fn progress_bound_holds()
+    ensures { ProgressBoundHolds }
 {}
