@@ -15,3 +15,4 @@ pub mod PaceTicks
 pub mod PaceRuns
 pub mod Orders
 pub mod PaceCycles
+pub mod LinkTests

@@ -2,3 +2,4 @@ pub mod LinkLaw
 pub mod TakeLaw
 pub mod Progress
 pub mod Laws
+pub mod LinkTests

@@ -5,6 +5,7 @@
 #![tactic(auto)]
 
 ghost use Rattle.journal_laws.specs.Laws.{LinkLawHolds, ProgressBoundHolds, TakeLawHolds};
+ghost use Rattle.journal_laws.specs.LinkTests.{LinkLawIsTested};
 
 /// The journal of every run, also under events in any order, has the link law.
 #[tactic(auto, using(crate::proofs::LinkRuns::link_law_holds))]
@@ -22,4 +23,10 @@ pub fn take_law_holds()
 #[tactic(auto, using(crate::proofs::PaceCycles::progress_bound_holds))]
 pub fn progress_bound_holds()
     ensures { ProgressBoundHolds }
+{}
+
+/// The link law keeps small journals that are right, and refuses small ones that are not.
+#[tactic(auto, using(crate::proofs::LinkTests::link_law_is_tested))]
+pub fn link_law_is_tested()
+    ensures { LinkLawIsTested }
 {}
