@@ -16,3 +16,4 @@ pub mod PaceRuns
 pub mod Orders
 pub mod PaceCycles
 pub mod LinkTests
+pub mod TakeTests

@@ -3,3 +3,4 @@ pub mod TakeLaw
 pub mod Progress
 pub mod Laws
 pub mod LinkTests
+pub mod TakeTests

@@ -6,6 +6,7 @@
 
 ghost use Rattle.journal_laws.specs.Laws.{LinkLawHolds, ProgressBoundHolds, TakeLawHolds};
 ghost use Rattle.journal_laws.specs.LinkTests.{LinkLawIsTested};
+ghost use Rattle.journal_laws.specs.TakeTests.{TakeLawIsTested};
 
 /// The journal of every run, also under events in any order, has the link law.
 #[tactic(auto, using(crate::proofs::LinkRuns::link_law_holds))]
@@ -29,4 +30,10 @@ pub fn progress_bound_holds()
 #[tactic(auto, using(crate::proofs::LinkTests::link_law_is_tested))]
 pub fn link_law_is_tested()
     ensures { LinkLawIsTested }
+{}
+
+/// The take law keeps small journals that are right, and refuses small ones that are not.
+#[tactic(auto, using(crate::proofs::TakeTests::take_law_is_tested))]
+pub fn take_law_is_tested()
+    ensures { TakeLawIsTested }
 {}
