@@ -17,3 +17,4 @@ pub mod Orders
 pub mod PaceCycles
 pub mod LinkTests
 pub mod TakeTests
+pub mod ProgressTests

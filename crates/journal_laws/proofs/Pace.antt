@@ -148,11 +148,11 @@ past_entry c done e y h = or_right (nat_lt e.cycle c) (e.cycle == c && (not (by_
 pub past_next : (c : ℕ) (done : List ℕ) (e : Entry) → is_past c done e ≡ true → is_past (c + 1) [] e ≡ true
 past_next c done e p = let l = past_cycle c done e p in or_left (nat_lt e.cycle (c + 1)) (e.cycle == c + 1 && (not (by_tick e.what) || has e.core [])) (lt-ltb e.cycle (c + 1) (omega (arith, l)))
 
-pub all_at : {X : Type 0} (p : X → Bool) (before later : List X) (xs : List X) (x : X) → xs ≡ before ++ x ∷ later → AllByRecursion (λ x. p x ≡ true) xs → p x ≡ true
-all_at p [] later [] x e a = cc
-all_at p [] later (y ∷ ys) x e a = let i : y ≡ x = cc in ap p (sym i) ∙ a.0
-all_at p (b ∷ bs) later [] x e a = cc
-all_at p (b ∷ bs) later (y ∷ ys) x e a = let i : ys ≡ bs ++ x ∷ later = cc in all_at p bs later ys x i a.1
+pub all_at : {X : Type 0} (P : X → Type 0) (before later : List X) (xs : List X) (x : X) → xs ≡ before ++ x ∷ later → AllByRecursion P xs → P x
+all_at P [] later [] x e a = cc
+all_at P [] later (y ∷ ys) x e a = let i : y ≡ x = cc in subst P i a.0
+all_at P (b ∷ bs) later [] x e a = cc
+all_at P (b ∷ bs) later (y ∷ ys) x e a = let i : ys ≡ bs ++ x ∷ later = cc in all_at P bs later ys x i a.1
 
 -- a fold over a core's own entries, with one more
 pub told_more : {X : Type 0} (step : X → What → X) (i : ℕ) (x : X) (journal : List Entry) (e : Entry) → told_of step i x (journal ++ e ∷ []) ≡ cond (e.core == i) (step (told_of step i x journal) e.what) (told_of step i x journal)
@@ -168,7 +168,7 @@ law_more order rows views c done journal e past y new law = record {
   each = λ before later d first q t v. elim (split_at_more before later journal d e q) [
     | inl p ↦ subst (λ d. IsInPace order rows first (journal ++ e ∷ []) d) (sym p.1) (in_pace_more order rows first journal e e (omega arith) (new first (ap (λ (d : Entry). by_tick d.what) (sym p.1) ∙ t) (ap (λ (d : Entry). slice_get views d.core) (sym p.1) ∙ v)))
     | inr p ↦
-        let l = past_cycle c done d (all_at (is_past c done) before p.0 journal d p.1 past) in
+        let l = past_cycle c done d (all_at (λ e. is_past c done e ≡ true) before p.0 journal d p.1 past) in
         in_pace_more order rows first journal d e (omega (arith, l, y)) (law.each before p.0 d first p.1 t v)
   ];
 }

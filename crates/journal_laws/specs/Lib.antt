@@ -4,3 +4,4 @@ pub mod Progress
 pub mod Laws
 pub mod LinkTests
 pub mod TakeTests
+pub mod ProgressTests

@@ -6,6 +6,7 @@
 
 ghost use Rattle.journal_laws.specs.Laws.{LinkLawHolds, ProgressBoundHolds, TakeLawHolds};
 ghost use Rattle.journal_laws.specs.LinkTests.{LinkLawIsTested};
+ghost use Rattle.journal_laws.specs.ProgressTests.{ProgressBoundIsTested};
 ghost use Rattle.journal_laws.specs.TakeTests.{TakeLawIsTested};
 
 /// The journal of every run, also under events in any order, has the link law.
@@ -36,4 +37,10 @@ pub fn link_law_is_tested()
 #[tactic(auto, using(crate::proofs::TakeTests::take_law_is_tested))]
 pub fn take_law_is_tested()
     ensures { TakeLawIsTested }
+{}
+
+/// The progress bound keeps small journals that are right, and refuses small ones that are not.
+#[tactic(auto, using(crate::proofs::ProgressTests::progress_bound_is_tested))]
+pub fn progress_bound_is_tested()
+    ensures { ProgressBoundIsTested }
 {}
