@@ -1,0 +1,210 @@
+-- Every step of the board machine keeps the link law.
+use Rattle.std.proofs.Common.{◌≡◌, ℕ, zero, suc, List, [], ◌∷◌, length, map, Option, Some, None, refl, ap, sym, ◌∙◌, subst, inl, inr, slice_get, Bool, true, false, cond}
+use Rattle.axi_link.specs.declared.item.Item.{Item}
+use Rattle.axi_link.specs.Channel.{Channel, empty}
+use Rattle.core_regs.specs.declared.causes.Take.{Take}
+use Rattle.core_regs.specs.declared.causes.WaitOn.{WaitOn}
+use Rattle.uart_lite.specs.Machine.{leaving}
+use Rattle.isa_step.specs.declared.acts.Act.{Act}
+use Rattle.isa_step.specs.declared.acts.Act.TheVariants as acts
+use Rattle.isa_step.specs.Shown.{Shown}
+use Rattle.isa_step.specs.Deeds.{View, Deed, Due, Does, Waits, Sleeps, Ends, Stops}
+use Rattle.isa_step.specs.Due.{due}
+use Rattle.board_file.specs.declared.board.BoardFile.{BoardFile}
+use Rattle.board_file.specs.declared.board.LinkRow.{LinkRow}
+use Rattle.run_journal.specs.declared.entry.Entry.{Entry}
+use Rattle.run_journal.specs.declared.entry.What.{What}
+use Rattle.run_journal.specs.declared.entry.What.TheVariants.{Got, Sent, Seen, Room, Missed, Took, Wait, HostSent, HostGot}
+use Rattle.board_machine.specs.declared.events.Event.{Event}
+use Rattle.board_machine.specs.declared.events.Event.TheVariants.{Devices, Host, Tick, Next}
+use Rattle.board_machine.specs.declared.events.HostPart.{HostPart}
+use Rattle.board_machine.specs.declared.events.HostPart.TheVariants.{Sends, Takes, Nothing}
+use Rattle.board_machine.specs.Bus.{Serial}
+use Rattle.board_machine.specs.DeviceMoves.{devices_moved, is_turn, left_at, left_of, line_change, line_driven, timers_moved, uart_cycled, uart_moved, with_devices}
+use Rattle.board_machine.specs.Fabric.{Fabric, act_leaves, breaks_come, entered, entered_some, entries_of_action, entry_of, entry_of_act, first_in, got_of, host_moves, is_kept, link_from, link_to, move_by, next_of, next_sent, no_core, or_low, part_at, room_in, sent_of, shown}
+use Rattle.board_machine.specs.World.{CoreAt, Inputs, Start, Step, Steps, TickMay, World, acts_of, devices_done, line_latched}
+use Rattle.board_machine.proofs.DeviceSteps.{order_keeps}
+use Rattle.board_machine.proofs.Lasting.{step_kept}
+use Rattle.journal_laws.specs.LinkLaw.{LinkLaw, MayStand}
+use Rattle.journal_laws.specs.Laws.{LinkLawHolds}
+use Rattle.journal_laws.proofs.Asking.{Agrees, AgreesIf, ShowsNone, act_splits, wait_shows}
+use Rattle.journal_laws.proofs.Links.{Lawful, entry_lawful, start_lawful, stands_empty, stands_first, stands_full, stands_room}
+
+abbrev pub LawfulIn : Fabric → Type 0
+LawfulIn f = Lawful f.rows f.links f.journal
+
+-- what agrees with what a fabric shows stands in its journal
+
+pub none_stands : (f : Fabric) (core port : ℕ) (full : Bool) → LawfulIn f → ShowsNone (shown f core) port full → MayStand f.rows f.journal core (Missed port full)
+none_stands f core port true k h = stands_full f.rows f.links f.journal core port k.linked h
+none_stands f core port false k h = stands_empty f.rows f.links f.journal core port k.linked h
+
+agrees_stands : (f : Fabric) (core : ℕ) (what : What) → LawfulIn f → Agrees (shown f core) what → MayStand f.rows f.journal core what
+agrees_stands f core (Got port item) k h = stands_first f.rows f.links f.journal (link_to f.rows core port) item k.linked h
+agrees_stands f core (Seen port item) k h = stands_first f.rows f.links f.journal (link_to f.rows core port) item k.linked h
+agrees_stands f core (Sent port item) k h = stands_room f.rows f.links f.journal (link_from f.rows core port) k.linked h
+agrees_stands f core (Room port) k h = stands_room f.rows f.links f.journal (link_from f.rows core port) k.linked h
+agrees_stands f core (Missed port full) k h = none_stands f core port full k h
+agrees_stands f core (Wait on) k h = none_stands f core on.port on.full k h
+agrees_stands f core (Took t) k h = elim h [ ]
+agrees_stands f core (HostSent link item) k h = elim h [ ]
+agrees_stands f core (HostGot link item) k h = elim h [ ]
+agrees_stands f core _ k h = tt
+
+entered_lawful : (core act : ℕ) (what : What) (f : Fabric) → MayStand f.rows f.journal core what → LawfulIn f → LawfulIn (entered core act what f)
+entered_lawful core act what f s k = entry_lawful f.rows f.links f.journal (entry_of f.cycle core act what) s k
+
+agreed_lawful : (core act : ℕ) (o : Option What) (f : Fabric) → AgreesIf (shown f core) o → LawfulIn f → LawfulIn (entered_some core act o f)
+agreed_lawful core act None f h k = k
+agreed_lawful core act (Some what) f h k = entered_lawful core act what f (agrees_stands f core what k h) k
+
+-- entries that touch no link
+abbrev IsOffLinks : Option What → Type 0
+IsOffLinks o = (s : Shown) → AgreesIf s o
+
+act_off : (a : Act) → IsOffLinks (entry_of_act a)
+act_off acts.Retired s = tt
+act_off acts.Slept s = tt
+act_off (acts.Took t) s = tt
+act_off (acts.Raised esr) s = tt
+act_off (acts.Stopped cause) s = tt
+
+off_lawful : (core act : ℕ) (o : Option What) (f : Fabric) → IsOffLinks o → LawfulIn f → LawfulIn (entered_some core act o f)
+off_lawful core act o f h k = agreed_lawful core act o f (h (shown f core)) k
+
+-- a tick
+
+act_lawful : (core act : ℕ) (deed : Deed) (f : Fabric) → AgreesIf (shown f core) (entries_of_action deed.action) → LawfulIn f → LawfulIn (act_leaves core act deed f)
+act_lawful core act deed f h k =
+    let g = entered_some core act (entries_of_action deed.action) f in
+    off_lawful core act (entry_of_act deed.done.act) g (act_off deed.done.act) (agreed_lawful core act (entries_of_action deed.action) f h k)
+
+wait_lawful : (core act : ℕ) (on : WaitOn) (f : Fabric) (kept : Bool) → ShowsNone (shown f core) on.port on.full → LawfulIn f → LawfulIn (cond kept f (entered core act (Wait on) f))
+wait_lawful core act on f true h k = k
+wait_lawful core act on f false h k = entered_lawful core act (Wait on) f (none_stands f core on.port on.full k h) k
+
+took_lawful : (core act : ℕ) (t : Take) (f : Fabric) → LawfulIn f → LawfulIn (entered core act (Took t) f)
+took_lawful core act t f k = entered_lawful core act (Took t) f tt k
+
+done_lawful : (core act : ℕ) (v : View) (deed : Deed) (f : Fabric) → due v (shown f core) ≡ Does deed → LawfulIn f → LawfulIn (act_leaves core act deed f)
+done_lawful core act v deed f e k = elim (act_splits v (shown f core) deed e) [
+  | inl t ↦ subst (λ deed. LawfulIn (act_leaves core act deed f)) (sym t.is) (took_lawful core act t.take f k)
+  | inr i ↦ act_lawful core act deed f i.agrees k
+]
+
+tick_lawful : (core : ℕ) (d : Due) (old : CoreAt) (before : Fabric) (new : CoreAt) (later : Fabric) → due old.view (shown before core) ≡ d → TickMay core d old before new later → LawfulIn before → LawfulIn later
+tick_lawful core (Does deed) old before new later e (inl a) k = subst LawfulIn (sym a.fabric) (done_lawful core old.acts old.view deed before e k)
+tick_lawful core (Does deed) old before new later e (inr i) k = subst LawfulIn (sym i.fabric) k
+tick_lawful core (Waits port full) old before new later e (inl i) k =
+    let on : WaitOn = record { port = port; full = full } in
+    subst LawfulIn (sym i.fabric) (wait_lawful core old.acts on before (is_kept core old.acts before.journal) (wait_shows old.view (shown before core) port full e) k)
+tick_lawful core (Waits port full) old before new later e (inr i) k = subst LawfulIn (sym i.fabric) k
+tick_lawful core Sleeps old before new later e i k = subst LawfulIn (sym i.fabric) k
+tick_lawful core Ends old before new later e i k = subst LawfulIn (sym i.fabric) k
+tick_lawful core (Stops cause) old before new later e i k = subst LawfulIn (sym i.fabric) k
+
+-- the host's moves
+
+room_found : (t : Bool) (o : Option Item) (x : Item) → cond {A = Option Item} t o None ≡ Some x → t ≡ true
+room_found true o x h = refl
+room_found false o x h = cc
+
+sent_lawful : (link : ℕ) (o : Option Item) (f : Fabric) → next_sent f link ≡ o → LawfulIn f → LawfulIn (entered_some no_core 0 (sent_of link o) f)
+sent_lawful link None f h k = k
+sent_lawful link (Some x) f h k = entered_lawful no_core 0 (HostSent link x) f (stands_room f.rows f.links f.journal (Some link) k.linked (room_found (room_in (slice_get f.links link)) (next_of (slice_get f.feeds link)) x h)) k
+
+got_lawful : (link : ℕ) (o : Option Item) (f : Fabric) → first_in (slice_get f.links link) ≡ o → LawfulIn f → LawfulIn (entered_some no_core 0 (got_of link o) f)
+got_lawful link None f h k = k
+got_lawful link (Some x) f h k = entered_lawful no_core 0 (HostGot link x) f (stands_first f.rows f.links f.journal (Some link) x k.linked h) k
+
+part_lawful : (link : ℕ) (part : HostPart) (f : Fabric) → LawfulIn f → LawfulIn (entered_some no_core 0 (move_by f link part) f)
+part_lawful link Sends f k = sent_lawful link (next_sent f link) f refl k
+part_lawful link Takes f k = got_lawful link (first_in (slice_get f.links link)) f refl k
+part_lawful link Nothing f k = k
+
+host_lawful : (f : Fabric) (n : ℕ) → LawfulIn f → LawfulIn (host_moves f n)
+host_lawful f zero k = k
+host_lawful f (suc n) k = let g = host_moves f n in part_lawful n (part_at (slice_get g.rows n)) g (host_lawful f n k)
+
+-- the step of the devices
+
+KeepsLaw : Fabric → Fabric → Type 0
+KeepsLaw f g = LawfulIn f → LawfulIn g
+
+law_itself : (f : Fabric) → KeepsLaw f f
+unfolding KeepsLaw
+law_itself f k = k
+
+law_then : (f g h : Fabric) → KeepsLaw f g → KeepsLaw g h → KeepsLaw f h
+unfolding KeepsLaw
+law_then f g h a b k = b (a k)
+
+off_keeps : (core act : ℕ) (o : Option What) (f : Fabric) → IsOffLinks o → KeepsLaw f (entered_some core act o f)
+unfolding KeepsLaw
+off_keeps core act o f h k = off_lawful core act o f h k
+
+byte_off : (k : ℕ) (o : Option ℕ) → IsOffLinks (left_of k o)
+byte_off k None s = tt
+byte_off k (Some byte) s = tt
+
+left_off : (k : ℕ) (o : Option Serial) → IsOffLinks (left_at k o)
+left_off k None s = tt
+left_off k (Some u) s = byte_off k (leaving u.port) s
+
+change_off : (new old : Bool) → IsOffLinks (line_change new old)
+change_off true true s = tt
+change_off true false s = tt
+change_off false true s = tt
+change_off false false s = tt
+
+uart_keeps : (k : ℕ) (f : Fabric) (turn : Bool) → KeepsLaw f (cond turn (entered_some no_core 0 (left_at k (slice_get f.devices.uarts k)) (with_devices (uart_cycled k f.devices) f)) f)
+unfolding KeepsLaw
+uart_keeps k f false = law_itself f
+uart_keeps k f true = off_keeps no_core 0 (left_at k (slice_get f.devices.uarts k)) (with_devices (uart_cycled k f.devices) f) (left_off k (slice_get f.devices.uarts k))
+
+moved_keeps : (f : Fabric) → KeepsLaw f (devices_moved f)
+unfolding KeepsLaw
+moved_keeps f = order_keeps KeepsLaw uart_moved law_itself law_then (λ k f. uart_keeps k f (is_turn f.cycle (slice_get f.bus.uarts k))) (length f.bus.uarts) (timers_moved f)
+
+latch_keeps : (cores : List CoreAt) (core : ℕ) (f : Fabric) → KeepsLaw f (line_latched cores core f)
+latch_keeps cores core f =
+    let new = line_driven f core in
+    let old = or_low (slice_get f.lines core) in
+    off_keeps core (acts_of (slice_get cores core)) (line_change new old) f (change_off new old)
+
+done_keeps : (cores : List CoreAt) (f : Fabric) → KeepsLaw f (devices_done cores f)
+unfolding devices_done KeepsLaw
+done_keeps cores f =
+    let g = devices_moved (breaks_come f) in
+    law_then f g (devices_done cores f) (moved_keeps (breaks_come f)) (order_keeps KeepsLaw (line_latched cores) law_itself law_then (latch_keeps cores) (length cores) g)
+
+-- each step
+
+pub step_lawful : (w v : World) (e : Event) → Step w e v → LawfulIn w.fabric → LawfulIn v.fabric
+unfolding KeepsLaw
+step_lawful w v Devices h k = subst (λ (v : World). LawfulIn v.fabric) (sym h) (done_keeps w.cores w.fabric k)
+step_lawful w v Host h k = subst (λ (v : World). LawfulIn v.fabric) (sym h) (host_lawful w.fabric (length w.fabric.rows) k)
+step_lawful w v (Tick core) h k = tick_lawful core (due h.was.view (shown w.fabric core)) h.was w.fabric h.is v.fabric refl h.may k
+step_lawful w v Next h k = subst (λ (v : World). LawfulIn v.fabric) (sym h) k
+
+pub steps_lawful : (w v : World) (es : List Event) → Steps w es v → LawfulIn w.fabric → LawfulIn v.fabric
+steps_lawful w v [] h k = subst (λ (v : World). LawfulIn v.fabric) (sym h) k
+steps_lawful w v (e ∷ es) h k = steps_lawful h.0 v es h.2 (step_lawful w h.0 e h.1 k)
+
+-- rows never change
+pub steps_rows : (w v : World) (es : List Event) → Steps w es v → v.fabric.rows ≡ w.fabric.rows
+steps_rows w v [] h = ap (λ (x : World). x.fabric.rows) h
+steps_rows w v (e ∷ es) h = steps_rows h.0 v es h.2 ∙ (step_kept w h.0 e h.1).rows
+
+by_fields : (rows first : List LinkRow) (links : List Channel) (journal : List Entry) → first ≡ rows → links ≡ map (λ (r : LinkRow). empty r.depth) rows → journal ≡ [] → Lawful first links journal
+by_fields rows first links journal r l j = rw (r, l, j) (start_lawful rows)
+
+pub start_lawful_in : (b : BoardFile) (views : List View) (inputs : Inputs) (w : World) → Start b views inputs w → LawfulIn w.fabric
+start_lawful_in b views inputs w s = by_fields b.links w.fabric.rows w.fabric.links w.fabric.journal s.has_rows s.links s.journal
+
+pub link_law_holds : LinkLawHolds
+link_law_holds = record {
+  law = λ b views inputs w r.
+      let all = steps_lawful r.first w r.events r.ran (start_lawful_in b views inputs r.first r.began) in
+      subst (λ rows. LinkLaw rows w.fabric.journal) (steps_rows r.first w r.events r.ran ∙ r.began.has_rows) all.law;
+}

@@ -1,0 +1,292 @@
+-- Every step of the board machine keeps each core's account.
+use Rattle.std.proofs.Common.{◌≡◌, ℕ, zero, suc, ◌+◌, ◌≤◌, List, [], ◌∷◌, length, map, Option, Some, None, refl, ap, sym, ◌∙◌, subst, inl, inr, ◌⊎◌, arith, slice_get, Bool, true, false, cond}
+use Rattle.std.specs.List.{list_any}
+use Rattle.std.specs.Option.{option_map}
+use Rattle.std.proofs.lemmas.Bool.{cases_eq}
+use Rattle.std.proofs.lemmas.Option.{same_Some, slice_get-map}
+use Rattle.axi_link.specs.declared.item.Item.{Item}
+use Rattle.core_regs.specs.declared.causes.WaitOn.{WaitOn}
+use Rattle.isa_step.specs.declared.acts.Breaks.{Breaks}
+use Rattle.isa_step.specs.Deeds.{View, Deed, Due, Does, Waits, Sleeps, Ends, Stops}
+use Rattle.isa_step.specs.Due.{due}
+use Rattle.uart_lite.specs.Machine.{leaving}
+use Rattle.board_file.specs.declared.board.BoardFile.{BoardFile}
+use Rattle.board_file.specs.declared.board.EventRow.{EventRow}
+use Rattle.run_journal.specs.declared.entry.Entry.{Entry}
+use Rattle.run_journal.specs.declared.entry.What.{What}
+use Rattle.run_journal.specs.declared.entry.What.TheVariants.{Wait, LineUp, LineDown, HostSent, HostGot, Left}
+use Rattle.run_journal.specs.Files.{tape}
+use Rattle.board_machine.specs.declared.events.Event.{Event}
+use Rattle.board_machine.specs.declared.events.Event.TheVariants.{Devices, Host, Tick, Next}
+use Rattle.board_machine.specs.declared.events.HostPart.{HostPart}
+use Rattle.board_machine.specs.declared.events.HostPart.TheVariants.{Sends, Takes, Nothing}
+use Rattle.board_machine.specs.Bus.{Serial}
+use Rattle.board_machine.specs.DeviceMoves.{devices_moved, in_order, is_turn, left_at, left_of, line_change, line_driven, timers_moved, uart_cycled, uart_moved, with_devices}
+use Rattle.board_machine.specs.Fabric.{Fabric, act_leaves, breaks_come, entered, entered_some, entries_of_action, entry_of_act, first_in, got_of, host_moves, is_kept, move_by, next_sent, no_breaks, no_core, or_low, or_none, part_at, sent_of, shown, waited}
+use Rattle.board_machine.specs.History.{Tells, view_told}
+use Rattle.board_machine.specs.World.{CoreAt, Inputs, IsAct, Reached, Start, Step, Steps, TickMay, TickStep, World, acts_of, devices_done, line_latched}
+use Rattle.board_machine.proofs.DeviceSteps.{order_keeps}
+use Rattle.board_machine.proofs.Keeping.{keeps_runs, wired}
+use Rattle.board_machine.proofs.Lines.{IsWired, steps_wired}
+use Rattle.board_machine.proofs.Tells.{step_tells, which}
+use Rattle.journal_laws.specs.Laws.{TakeLawHolds}
+use Rattle.journal_laws.specs.TakeLaw.{TakeLaw, breaks_of, breaks_taken}
+use Rattle.journal_laws.proofs.BreaksCome.{come_account, next_account}
+use Rattle.journal_laws.proofs.TakeActs.{act_account}
+use Rattle.journal_laws.proofs.Takes.{Account, IsEdge, SaysNothing, as_one, edge_account, flag_at, flag_of, nothing_account, other_account}
+
+-- some line, with the account
+record HasAccount (breaks : List EventRow) (first : View) (core acts : ℕ) (f : Fabric) : Type 0 where
+  line : Bool
+  account : Account breaks first core acts line f
+
+-- the account of a core that did not act stays
+KeepsAccount : List EventRow → View → ℕ → ℕ → Fabric → Fabric → Type 0
+KeepsAccount breaks first core acts f g = HasAccount breaks first core acts f → HasAccount breaks first core acts g
+
+keeps_itself : (breaks : List EventRow) (first : View) (core acts : ℕ) (f : Fabric) → KeepsAccount breaks first core acts f f
+unfolding KeepsAccount
+keeps_itself breaks first core acts f a = a
+
+keeps_then : (breaks : List EventRow) (first : View) (core acts : ℕ) (f g h : Fabric) → KeepsAccount breaks first core acts f g → KeepsAccount breaks first core acts g h → KeepsAccount breaks first core acts f h
+unfolding KeepsAccount
+keeps_then breaks first core acts f g h a b k = b (a k)
+
+-- entries that say nothing of acts and lines
+
+abbrev SaysNothingIf : Option What → Type 0
+SaysNothingIf None = Unit {0}
+SaysNothingIf (Some what) = SaysNothing what
+
+nothing_keeps : (breaks : List EventRow) (first : View) (core acts by act : ℕ) (o : Option What) (f : Fabric) → SaysNothingIf o → KeepsAccount breaks first core acts f (entered_some by act o f)
+unfolding KeepsAccount
+nothing_keeps breaks first core acts by act None f s a = a
+nothing_keeps breaks first core acts by act (Some what) f s a = record { line = a.line; account = nothing_account breaks first core acts a.line f by act what s a.account }
+
+wait_says : (on : WaitOn) → SaysNothing (Wait on)
+wait_says on = record { response = refl; change = refl; take = λ k. refl; told = refl; pending = λ c ps. refl }
+
+sent_says : (link : ℕ) (o : Option Item) → SaysNothingIf (sent_of link o)
+sent_says link None = tt
+sent_says link (Some item) = record { response = refl; change = refl; take = λ k. refl; told = refl; pending = λ c ps. refl }
+
+got_says : (link : ℕ) (o : Option Item) → SaysNothingIf (got_of link o)
+got_says link None = tt
+got_says link (Some item) = record { response = refl; change = refl; take = λ k. refl; told = refl; pending = λ c ps. refl }
+
+move_says : (f : Fabric) (link : ℕ) (part : HostPart) → SaysNothingIf (move_by f link part)
+move_says f link Sends = sent_says link (next_sent f link)
+move_says f link Takes = got_says link (first_in (slice_get f.links link))
+move_says f link Nothing = tt
+
+byte_says : (k : ℕ) (o : Option ℕ) → SaysNothingIf (left_of k o)
+byte_says k None = tt
+byte_says k (Some byte) = record { response = refl; change = refl; take = λ k. refl; told = refl; pending = λ c ps. refl }
+
+left_says : (k : ℕ) (o : Option Serial) → SaysNothingIf (left_at k o)
+left_says k None = tt
+left_says k (Some u) = byte_says k (leaving u.port)
+
+-- the host and the devices
+
+host_keeps : (breaks : List EventRow) (first : View) (core acts : ℕ) (f : Fabric) (n : ℕ) → KeepsAccount breaks first core acts f (host_moves f n)
+host_keeps breaks first core acts f zero = keeps_itself breaks first core acts f
+host_keeps breaks first core acts f (suc n) =
+    let g = host_moves f n in
+    let part = part_at (slice_get g.rows n) in
+    keeps_then breaks first core acts f g (host_moves f (suc n)) (host_keeps breaks first core acts f n) (nothing_keeps breaks first core acts no_core 0 (move_by g n part) g (move_says g n part))
+
+with_keeps : (breaks : List EventRow) (first : View) (core acts : ℕ) (f : Fabric) (d : _) → KeepsAccount breaks first core acts f (with_devices d f)
+unfolding KeepsAccount
+with_keeps breaks first core acts f d a = record { line = a.line; account = record { right = a.account.right; has_line = a.account.has_line; is_high = a.account.is_high; enough = a.account.enough; come = a.account.come; all_from = a.account.all_from } }
+
+uart_keeps : (breaks : List EventRow) (first : View) (core acts k : ℕ) (f : Fabric) (turn : Bool) → KeepsAccount breaks first core acts f (cond turn (entered_some no_core 0 (left_at k (slice_get f.devices.uarts k)) (with_devices (uart_cycled k f.devices) f)) f)
+uart_keeps breaks first core acts k f false = keeps_itself breaks first core acts f
+uart_keeps breaks first core acts k f true =
+    let g = with_devices (uart_cycled k f.devices) f in
+    keeps_then breaks first core acts f g _ (with_keeps breaks first core acts f (uart_cycled k f.devices)) (nothing_keeps breaks first core acts no_core 0 (left_at k (slice_get f.devices.uarts k)) g (left_says k (slice_get f.devices.uarts k)))
+
+moved_keeps : (breaks : List EventRow) (first : View) (core acts : ℕ) (f : Fabric) → KeepsAccount breaks first core acts f (devices_moved f)
+moved_keeps breaks first core acts f =
+    let t = timers_moved f in
+    let u = in_order uart_moved (length f.bus.uarts) t in
+    let keeps = KeepsAccount breaks first core acts in
+    keeps_then breaks first core acts f u (devices_moved f)
+    (keeps_then breaks first core acts f t u (with_keeps breaks first core acts f t.devices)
+    (order_keeps keeps uart_moved (keeps_itself breaks first core acts) (keeps_then breaks first core acts) (λ k f. uart_keeps breaks first core acts k f (is_turn f.cycle (slice_get f.bus.uarts k))) (length f.bus.uarts) t))
+    (with_keeps breaks first core acts u (devices_moved f).devices)
+
+-- the lines
+
+up_edge : IsEdge LineUp true
+up_edge = record { response = refl; change = refl; rise = refl; take = λ k. refl; told = refl; pending = λ c ps. refl }
+
+down_edge : IsEdge LineDown false
+down_edge = record { response = refl; change = refl; rise = refl; take = λ k. refl; told = refl; pending = λ c ps. refl }
+
+own_latch : (breaks : List EventRow) (first : View) (core acts : ℕ) (new old : Bool) (f : Fabric) → KeepsAccount breaks first core acts f (entered_some core acts (line_change new old) f)
+unfolding KeepsAccount
+own_latch breaks first core acts true true f a = a
+own_latch breaks first core acts false false f a = a
+own_latch breaks first core acts true false f a = record { line = true; account = edge_account breaks first core acts a.line f LineUp true up_edge a.account }
+own_latch breaks first core acts false true f a = record { line = false; account = edge_account breaks first core acts a.line f LineDown false down_edge a.account }
+
+some_other : (breaks : List EventRow) (first : View) (core acts by act : ℕ) (o : Option What) (f : Fabric) → (by ≡ core → ⊥) → KeepsAccount breaks first core acts f (entered_some by act o f)
+unfolding KeepsAccount
+some_other breaks first core acts by act None f n a = a
+some_other breaks first core acts by act (Some what) f n a = record { line = a.line; account = other_account breaks first core acts a.line f by act what n a.account }
+
+latch_by : (breaks : List EventRow) (first : View) (cores : List CoreAt) (core : ℕ) (s : CoreAt) (by : ℕ) (new old : Bool) (f : Fabric) → slice_get cores core ≡ Some s → (by ≡ core) ⊎ (by ≡ core → ⊥) → KeepsAccount breaks first core s.acts f (entered_some by (acts_of (slice_get cores by)) (line_change new old) f)
+latch_by breaks first cores core s by new old f q (inr n) = some_other breaks first core s.acts by (acts_of (slice_get cores by)) (line_change new old) f n
+latch_by breaks first cores core s by new old f q (inl e) =
+    subst (λ k. KeepsAccount breaks first core s.acts f (entered_some k (acts_of (slice_get cores k)) (line_change new old) f)) (sym e)
+    (subst (λ act. KeepsAccount breaks first core s.acts f (entered_some core act (line_change new old) f)) (sym (ap acts_of q)) (own_latch breaks first core s.acts new old f))
+
+latch_keeps : (breaks : List EventRow) (first : View) (cores : List CoreAt) (core : ℕ) (s : CoreAt) → slice_get cores core ≡ Some s → (by : ℕ) (f : Fabric) → KeepsAccount breaks first core s.acts f (line_latched cores by f)
+latch_keeps breaks first cores core s q by f = latch_by breaks first cores core s by (line_driven f by) (or_low (slice_get f.lines by)) f q (cases_eq by core)
+
+come_keeps : (breaks : List EventRow) (first : View) (core acts : ℕ) (f : Fabric) → KeepsAccount breaks first core acts f (breaks_come f)
+unfolding KeepsAccount
+come_keeps breaks first core acts f a = record { line = a.line; account = come_account breaks first core acts a.line f a.account }
+
+done_keeps : (breaks : List EventRow) (first : View) (cores : List CoreAt) (core : ℕ) (s : CoreAt) (f : Fabric) → slice_get cores core ≡ Some s → KeepsAccount breaks first core s.acts f (devices_done cores f)
+unfolding devices_done
+done_keeps breaks first cores core s f q =
+    let b = breaks_come f in
+    let g = devices_moved b in
+    let keeps = KeepsAccount breaks first core s.acts in
+    keeps_then breaks first core s.acts f g (devices_done cores f) (keeps_then breaks first core s.acts f b g (come_keeps breaks first core s.acts f) (moved_keeps breaks first core s.acts b))
+    (order_keeps keeps (line_latched cores) (keeps_itself breaks first core s.acts) (keeps_then breaks first core s.acts) (latch_keeps breaks first cores core s q) (length cores) g)
+
+-- a tick of another core
+
+others_keep : (breaks : List EventRow) (first : View) (core acts by act : ℕ) (deed : Deed) (f : Fabric) → (by ≡ core → ⊥) → KeepsAccount breaks first core acts f (act_leaves by act deed f)
+others_keep breaks first core acts by act deed f n =
+    let g = entered_some by act (entries_of_action deed.action) f in
+    keeps_then breaks first core acts f g (act_leaves by act deed f) (some_other breaks first core acts by act (entries_of_action deed.action) f n) (some_other breaks first core acts by act (entry_of_act deed.done.act) g n)
+
+waited_keeps : (breaks : List EventRow) (first : View) (core acts by act : ℕ) (on : WaitOn) (f : Fabric) (kept : Bool) → KeepsAccount breaks first core acts f (cond kept f (entered by act (Wait on) f))
+waited_keeps breaks first core acts by act on f true = keeps_itself breaks first core acts f
+waited_keeps breaks first core acts by act on f false = nothing_keeps breaks first core acts by act (Some (Wait on)) f (wait_says on)
+
+later_keeps : (breaks : List EventRow) (first : View) (core acts : ℕ) (f g later : Fabric) → later ≡ g → KeepsAccount breaks first core acts f g → KeepsAccount breaks first core acts f later
+later_keeps breaks first core acts f g later e k = subst (KeepsAccount breaks first core acts f) (sym e) k
+
+other_keeps : (breaks : List EventRow) (first : View) (core acts by : ℕ) (d : Due) (old : CoreAt) (before : Fabric) (new : CoreAt) (later : Fabric) → (by ≡ core → ⊥) → TickMay by d old before new later → KeepsAccount breaks first core acts before later
+other_keeps breaks first core acts by (Does deed) old before new later n (inl h) = later_keeps breaks first core acts before _ later h.fabric (others_keep breaks first core acts by old.acts deed before n)
+other_keeps breaks first core acts by (Does deed) old before new later n (inr h) = later_keeps breaks first core acts before before later h.fabric (keeps_itself breaks first core acts before)
+other_keeps breaks first core acts by (Waits port full) old before new later n (inl h) = later_keeps breaks first core acts before _ later h.fabric (waited_keeps breaks first core acts by old.acts (record { port = port; full = full }) before (is_kept by old.acts before.journal))
+other_keeps breaks first core acts by (Waits port full) old before new later n (inr h) = later_keeps breaks first core acts before before later h.fabric (keeps_itself breaks first core acts before)
+other_keeps breaks first core acts by Sleeps old before new later n h = later_keeps breaks first core acts before before later h.fabric (keeps_itself breaks first core acts before)
+other_keeps breaks first core acts by Ends old before new later n h = later_keeps breaks first core acts before before later h.fabric (keeps_itself breaks first core acts before)
+other_keeps breaks first core acts by (Stops cause) old before new later n h = later_keeps breaks first core acts before before later h.fabric (keeps_itself breaks first core acts before)
+
+-- a tick of the core itself
+
+idle_account : (breaks : List EventRow) (first : View) (core : ℕ) (old new : CoreAt) (before left later : Fabric) → later ≡ left → new.acts ≡ old.acts → KeepsAccount breaks first core old.acts before left → HasAccount breaks first core old.acts before → HasAccount breaks first core new.acts later
+unfolding KeepsAccount
+idle_account breaks first core old new before left later f a k x = rw (f, a) (k x)
+
+act_done : (breaks : List EventRow) (first : View) (core : ℕ) (deed : Deed) (old : CoreAt) (before : Fabric) (new : CoreAt) (later : Fabric) → IsWired before → due old.view (shown before core) ≡ Does deed
+    → tape before.journal core old.acts ≡ [] → view_told first before.journal core old.acts ≡ Some old.view → IsAct core deed old before new later → HasAccount breaks first core old.acts before → HasAccount breaks first core new.acts later
+act_done breaks first core deed old before new later w d n t h x =
+    rw (h.fabric, ap (λ (s : CoreAt). s.acts) h.state) (record { line = x.line; account = act_account breaks first core old.acts x.line old.view before deed w d n t x.account })
+
+own_ticked : (breaks : List EventRow) (first : View) (core : ℕ) (d : Due) (old : CoreAt) (before : Fabric) (new : CoreAt) (later : Fabric) → IsWired before → due old.view (shown before core) ≡ d
+    → tape before.journal core old.acts ≡ [] → view_told first before.journal core old.acts ≡ Some old.view → TickMay core d old before new later → HasAccount breaks first core old.acts before → HasAccount breaks first core new.acts later
+own_ticked breaks first core (Does deed) old before new later w e n t (inl h) x = act_done breaks first core deed old before new later w e n t h x
+own_ticked breaks first core (Does deed) old before new later w e n t (inr h) x = idle_account breaks first core old new before before later h.fabric (ap (λ (s : CoreAt). s.acts) h.state) (keeps_itself breaks first core old.acts before) x
+own_ticked breaks first core (Waits port full) old before new later w e n t (inl h) x =
+    let on : WaitOn = record { port = port; full = full } in
+    idle_account breaks first core old new before (waited core old.acts on before) later h.fabric (ap (λ (s : CoreAt). s.acts) h.state) (waited_keeps breaks first core old.acts core old.acts on before (is_kept core old.acts before.journal)) x
+own_ticked breaks first core (Waits port full) old before new later w e n t (inr h) x = idle_account breaks first core old new before before later h.fabric (ap (λ (s : CoreAt). s.acts) h.state) (keeps_itself breaks first core old.acts before) x
+own_ticked breaks first core Sleeps old before new later w e n t h x = idle_account breaks first core old new before before later h.fabric (ap (λ (s : CoreAt). s.acts) h.state) (keeps_itself breaks first core old.acts before) x
+own_ticked breaks first core Ends old before new later w e n t h x = idle_account breaks first core old new before before later h.fabric (ap (λ (s : CoreAt). s.acts) h.state) (keeps_itself breaks first core old.acts before) x
+own_ticked breaks first core (Stops cause) old before new later w e n t h x = idle_account breaks first core old new before before later h.fabric (ap (λ (s : CoreAt). s.acts) h.state) (keeps_itself breaks first core old.acts before) x
+
+-- each step
+
+record Accounts (breaks : List EventRow) (views : List View) (w : World) : Type 0 where
+  wired : IsWired w.fabric
+  tells : Tells views w.cores w.fabric.journal
+  each : (core : ℕ) (s : CoreAt) (first : View) → slice_get w.cores core ≡ Some s → slice_get views core ≡ Some first → HasAccount breaks first core s.acts w.fabric
+
+ticked_at : (breaks : List EventRow) (views : List View) (core : ℕ) (w v : World) (h : TickStep core w v) (k : ℕ) (s : CoreAt) (first : View) → Accounts breaks views w → slice_get views k ≡ Some first
+    → ((k ≡ core) × (h.is ≡ s)) ⊎ ((k ≡ core → ⊥) × (slice_get w.cores k ≡ Some s)) → HasAccount breaks first k s.acts v.fabric
+unfolding KeepsAccount
+ticked_at breaks views core w v h k s first a r (inl p) =
+    let q : slice_get views core ≡ Some first = ap (slice_get views) (sym p.0) ∙ r in
+    let t = own_ticked breaks first core (due h.was.view (shown w.fabric core)) h.was w.fabric h.is v.fabric a.wired refl (a.tells.none_ahead core h.was.acts h.was h.there (omega arith)) (a.tells.each core h.was first h.there q) h.may (a.each core h.was first h.there q) in
+    subst (λ k. HasAccount breaks first k s.acts v.fabric) (sym p.0) (subst (λ (s : CoreAt). HasAccount breaks first core s.acts v.fabric) p.1 t)
+ticked_at breaks views core w v h k s first a r (inr p) = other_keeps breaks first k s.acts core (due h.was.view (shown w.fabric core)) h.was w.fabric h.is v.fabric (λ z. p.0 (sym z)) h.may (a.each k s first p.1 r)
+
+step_each : (breaks : List EventRow) (views : List View) (w v : World) (e : Event) → Step w e v → Accounts breaks views w → (core : ℕ) (s : CoreAt) (first : View) → slice_get v.cores core ≡ Some s → slice_get views core ≡ Some first → HasAccount breaks first core s.acts v.fabric
+unfolding KeepsAccount
+step_each breaks views w v (Tick core) h a k s first q r = ticked_at breaks views core w v h k s first a r (which core k w v h s (cases_eq k core) q)
+step_each breaks views w v Devices h a core s first q r =
+    let there : slice_get w.cores core ≡ Some s = ap (λ (x : World). slice_get x.cores core) (sym h) ∙ q in
+    subst (λ (x : World). HasAccount breaks first core s.acts x.fabric) (sym h) (done_keeps breaks first w.cores core s w.fabric there (a.each core s first there r))
+step_each breaks views w v Host h a core s first q r =
+    subst (λ (x : World). HasAccount breaks first core s.acts x.fabric) (sym h) (host_keeps breaks first core s.acts w.fabric (length w.fabric.rows) (a.each core s first (ap (λ (x : World). slice_get x.cores core) (sym h) ∙ q) r))
+step_each breaks views w v Next h a core s first q r =
+    let x = a.each core s first (ap (λ (x : World). slice_get x.cores core) (sym h) ∙ q) r in
+    subst (λ (x : World). HasAccount breaks first core s.acts x.fabric) (sym h) (record { line = x.line; account = next_account breaks first core s.acts x.line w.fabric x.account })
+
+step_accounts : (breaks : List EventRow) (views : List View) (w v : World) (e : Event) → Step w e v → Accounts breaks views w → Accounts breaks views v
+step_accounts breaks views w v e h a = record {
+  wired = steps_wired w v (e ∷ []) (v, h, refl) a.wired;
+  tells = step_tells views w v e h a.tells;
+  each = step_each breaks views w v e h a;
+}
+
+steps_accounts : (breaks : List EventRow) (views : List View) (w v : World) (es : List Event) → Steps w es v → Accounts breaks views w → Accounts breaks views v
+steps_accounts breaks views w v [] h a = subst (Accounts breaks views) (sym h) a
+steps_accounts breaks views w v (e ∷ es) h a = steps_accounts breaks views h.0 v es h.2 (step_accounts breaks views w h.0 e h.1 a)
+
+-- the beginning
+
+flag_none : (kind : Bool) → flag_of kind no_breaks ≡ false
+unfolding flag_of
+flag_none true = refl
+flag_none false = refl
+
+no_flag : (cores : List CoreAt) (core : ℕ) (kind : Bool) → flag_at (map (λ (s : CoreAt). no_breaks) cores) core kind ≡ false
+no_flag [] core kind = flag_none kind
+no_flag (s ∷ cores) zero kind = flag_none kind
+no_flag (s ∷ cores) (suc core) kind = no_flag cores core kind
+
+start_has : (breaks : List EventRow) (cores : List CoreAt) (core : ℕ) (s : CoreAt) (first : View) (f : Fabric) → slice_get cores core ≡ Some s → s.acts ≡ 0 → f.lines ≡ map (λ s. false) cores → f.pending ≡ map (λ s. no_breaks) cores → f.left ≡ breaks → f.journal ≡ [] → HasAccount breaks first core s.acts f
+start_has breaks cores core s first f q z l p b j = record {
+  line = false;
+  account = record {
+    right = λ k i. absurd (omega (arith, i, z));
+    has_line = ap (λ (ls : List Bool). slice_get ls core) l ∙ slice_get-map (λ (s : CoreAt). false) cores core ∙ ap (option_map (λ (s : CoreAt). false)) q;
+    is_high = λ k i. rw j refl;
+    enough = λ kind. rw (j, p, b, no_flag cores core kind) (omega arith);
+    come = λ kind h. let n : false ≡ true = sym (no_flag cores core kind) ∙ ap (λ (ps : List Breaks). flag_at ps core kind) (sym p) ∙ h in cc;
+    all_from = λ test h. ap (list_any test) (sym b) ∙ h;
+  };
+}
+
+start_accounts : (b : BoardFile) (views : List View) (inputs : Inputs) (w : World) → Start b views inputs w → Accounts b.events views w
+start_accounts b views inputs w s =
+    let r : Reached b views inputs w = record { first = w; events = []; began = s; ran = refl } in
+    record {
+      wired = record { line = wired b views inputs w r };
+      tells = (keeps_runs w w [] refl b views inputs r).told;
+      each = λ core c first q p. start_has b.events w.cores core c first w.fabric q (s.fresh core c q).0 s.lines s.pending s.left s.journal;
+    }
+
+less : (a b c d : ℕ) → a + b + c ≤ d → a ≤ d
+less a b c d h = omega (arith, h)
+
+-- the journal of every run has the take law
+pub take_law_holds : TakeLawHolds
+take_law_holds = record {
+  law = λ b views inputs w r core s first q p.
+      let a = (steps_accounts b.events views r.first w r.events r.ran (start_accounts b views inputs r.first r.began)).each core s first q p in
+      record {
+        right = a.account.right;
+        enough = λ kind. less (breaks_taken w.fabric.journal core kind) (as_one (flag_at w.fabric.pending core kind)) (breaks_of w.fabric.left core kind) (breaks_of b.events core kind) (a.account.enough kind);
+      };
+}

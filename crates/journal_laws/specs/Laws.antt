@@ -1,0 +1,39 @@
+-- What is proved of every journal of the board machine.
+use Rattle.std.specs.Prelude.{◌≡◌, ℕ, ◌+◌, ◌*◌, ◌≤◌, List, Some, map, slice_get}
+use Rattle.isa_step.specs.Deeds.{View, Ends}
+use Rattle.isa_step.specs.Due.{due}
+use Rattle.board_file.specs.declared.board.BoardFile.{BoardFile}
+use Rattle.board_file.specs.declared.board.CoreRow.{CoreRow}
+use Rattle.board_machine.specs.Cycles.{Cycles}
+use Rattle.board_machine.specs.Fabric.{shown}
+use Rattle.board_machine.specs.World.{CoreAt, Inputs, Reached, Start, World}
+use Rattle.journal_laws.specs.LinkLaw.{LinkLaw}
+use Rattle.journal_laws.specs.TakeLaw.{TakeLaw}
+use Rattle.journal_laws.specs.Progress.{ProgressBound, rests_below, ticking, ticks_below}
+
+pub record LinkLawHolds : Type 0 where
+  pub law : (b : BoardFile) (views : List View) (inputs : Inputs) (w : World) → Reached b views inputs w → LinkLaw b.links w.fabric.journal
+
+pub record TakeLawHolds : Type 0 where
+  pub law : (b : BoardFile) (views : List View) (inputs : Inputs) (w : World) → Reached b views inputs w
+      → (core : ℕ) (s : CoreAt) (first : View) → slice_get w.cores core ≡ Some s → slice_get views core ≡ Some first → TakeLaw b.events first core s.acts w.fabric.journal
+
+-- the cores that tick in a cycle of a board
+abbrev pub order_of : BoardFile → ℕ → List ℕ
+order_of b = ticking b.turn (map (λ (r : CoreRow). r.clock) b.cores)
+
+-- a board that ran so many cycles from its beginning
+pub record RanCycles (b : BoardFile) (views : List View) (inputs : Inputs) (count : ℕ) (w : World) : Type 0 where
+  pub first : World
+  pub began : Start b views inputs first
+  pub ran : Cycles first count w
+
+-- a core that is not at its end had at most 64 ticks for each act and one more, and those in which it could not act
+pub record KeepsPace (b : BoardFile) (views : List View) (cycles : ℕ) (w : World) : Type 0 where
+  pub ticks : (core : ℕ) (s : CoreAt) (first : View) → slice_get w.cores core ≡ Some s → slice_get views core ≡ Some first → s.ticks ≡ ticks_below (order_of b) core cycles
+  pub bound : (core : ℕ) (s : CoreAt) (first : View) → slice_get w.cores core ≡ Some s → slice_get views core ≡ Some first → (due s.view (shown w.fabric core) ≡ Ends → ⊥)
+      → ticks_below (order_of b) core cycles + 1 ≤ 64 * (s.acts + 1) + rests_below (order_of b) b.links first core w.fabric.journal cycles
+
+pub record ProgressBoundHolds : Type 0 where
+  pub law : (b : BoardFile) (views : List View) (inputs : Inputs) (count : ℕ) (w : World) → RanCycles b views inputs count w → ProgressBound (order_of b) b.links views w.fabric.journal
+  pub at_end : (b : BoardFile) (views : List View) (inputs : Inputs) (count : ℕ) (w : World) → RanCycles b views inputs count w → KeepsPace b views count w

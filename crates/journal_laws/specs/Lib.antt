@@ -1,0 +1,7 @@
+pub mod LinkLaw
+pub mod TakeLaw
+pub mod Progress
+pub mod Laws
+pub mod LinkTests
+pub mod TakeTests
+pub mod ProgressTests

@@ -1,0 +1,46 @@
+//! Three laws that are read off a journal, whatever program wrote it: the link law, the take law and the progress bound.
+//!
+//! Each is stated over entries and rows of the board file alone (`specs/`), so that a journal file can be checked against
+//! it by hand. There is no code here: each function is a law of the board machine, whose statement is its clause.
+#![tactic(auto)]
+
+ghost use Rattle.journal_laws.specs.Laws.{LinkLawHolds, ProgressBoundHolds, TakeLawHolds};
+ghost use Rattle.journal_laws.specs.LinkTests.{LinkLawIsTested};
+ghost use Rattle.journal_laws.specs.ProgressTests.{ProgressBoundIsTested};
+ghost use Rattle.journal_laws.specs.TakeTests.{TakeLawIsTested};
+
+/// The journal of every run, also under events in any order, has the link law.
+#[tactic(auto, using(crate::proofs::LinkRuns::link_law_holds))]
+pub fn link_law_holds()
+    ensures { LinkLawHolds }
+{}
+
+/// In the journal of every run, also under events in any order, each core has the take law.
+#[tactic(auto, using(crate::proofs::TakeRuns::take_law_holds))]
+pub fn take_law_holds()
+    ensures { TakeLawHolds }
+{}
+
+/// The journal of every run by cycles has the progress bound, and at its end each core that goes on has it.
+#[tactic(auto, using(crate::proofs::PaceCycles::progress_bound_holds))]
+pub fn progress_bound_holds()
+    ensures { ProgressBoundHolds }
+{}
+
+/// The link law keeps small journals that are right, and refuses small ones that are not.
+#[tactic(auto, using(crate::proofs::LinkTests::link_law_is_tested))]
+pub fn link_law_is_tested()
+    ensures { LinkLawIsTested }
+{}
+
+/// The take law keeps small journals that are right, and refuses small ones that are not.
+#[tactic(auto, using(crate::proofs::TakeTests::take_law_is_tested))]
+pub fn take_law_is_tested()
+    ensures { TakeLawIsTested }
+{}
+
+/// The progress bound keeps small journals that are right, and refuses small ones that are not.
+#[tactic(auto, using(crate::proofs::ProgressTests::progress_bound_is_tested))]
+pub fn progress_bound_is_tested()
+    ensures { ProgressBoundIsTested }
+{}
