@@ -1,0 +1,10 @@
+pub mod Confluence
+pub mod Parts
+pub mod Steady
+pub mod Kahn
+pub mod Flows
+pub mod Diamond
+pub mod Carried
+pub mod Simulation
+pub mod Law
+pub mod Files
