@@ -2,7 +2,8 @@
 use Rattle.std.proofs.Common.{◌≡◌, ℕ, zero, suc, ◌+◌, ◌≤◌, List, [], ◌∷◌, ◌++◌, length, map, take, drop, filter, Option, Some, None, refl, ap, sym, ◌∙◌, subst, inl, inr, ◌⊎◌, arith, slice_get, Bool, true, false, cond, length-append, set, add-one, add-zero, ◌&&◌, ◌||◌}
 use Rattle.std.specs.Option.{is_some, option_map}
 use Rattle.std.specs.List.{cons_option, list_any}
-use Rattle.std.proofs.lemmas.Option.{same_Some, slice_get-map, slice_get_within}
+use Rattle.std.proofs.Math.Seq.{take-suc}
+use Rattle.std.proofs.lemmas.Option.{get_or_from_slice_get, slice_get-map, slice_get_within}
 use Rattle.std.proofs.lemmas.Bool.{eq-eqb, ne_eqb}
 use Rattle.std.proofs.lemmas.List.{drop-append-le, map-set, take-append-le, append-nil}
 use Rattle.std.proofs.lemmas.List.Elements.{filter-append, filter_map-append}
@@ -24,6 +25,7 @@ use Rattle.net_law.specs.Network.{Pipe, Plan, channel_of, gave, ports_of, took}
 use Rattle.net_law.specs.Law.{got_on, is_move_of_host, on_link, put_of, sent_on, taken_of}
 use Rattle.net_law.proofs.Flows.{touch_same, touch_other}
 use Rattle.net_law.proofs.Diamond.{map_some}
+use Rattle.net_law.proofs.Calm.{Calm, shown_calm}
 
 -- what the journal says of one pipe
 pub record Told (rows : List LinkRow) (journal : List Entry) (link : ℕ) (p : Pipe) : Type 0 where
@@ -34,17 +36,6 @@ pub record Told (rows : List LinkRow) (journal : List Entry) (link : ℕ) (p : P
 -- the input file of a link, as far as it was sent
 abbrev pub feed_at : Pipe → Feed → Feed
 feed_at p d = record { items = d.items; place = length p.sent }
-
--- no device and no break
-abbrev pub no_rows : DeviceRows
-no_rows = record { timers = []; intcs = []; uarts = [] }
-
--- nothing but the links reaches a core
-pub record Calm (f : Fabric) : Type 0 where
-  pub line : (core : ℕ) → or_low (slice_get f.lines core) ≡ false
-  pub breaks : (core : ℕ) → breaks_at f core ≡ no_breaks
-  pub left : f.left ≡ []
-  pub bus : f.bus ≡ no_rows
 
 abbrev pub Fed : Plan → List Feed → List Pipe → Type 0
 Fed b feeds pipes = (link : ℕ) (p : Pipe) → part_at (slice_get b.rows link) ≡ Sends → slice_get pipes link ≡ Some p → slice_get feeds link ≡ option_map (feed_at p) (slice_get b.feeds link)
@@ -64,47 +55,8 @@ pub record Carries (b : Plan) (f : Fabric) (hosts : ℕ) (pipes : List Pipe) : T
   pub count : hosts_in f.journal ≡ hosts
 
 -- what the ports show
-
-silent : (d : Devices) (core addr : ℕ) (access : Access) → answer_at d access (spot_at no_rows core addr) ≡ None
-unfolding answer_at spot_at
-silent d core addr access = refl
-
-abbrev shows : Devices → Bool → Breaks → DeviceRows → List EventRow → List LinkRow → List Channel → ℕ → Shown
-shows d line breaks bus left rows links core = record {
-  line = list_any (is_on core) bus.intcs && line;
-  breaks = breaks;
-  hopes = record {
-    interrupt = list_any (is_on core) bus.intcs;
-    maskable = breaks.maskable || list_any (is_break core false) left;
-    nonmaskable = breaks.nonmaskable || list_any (is_break core true) left;
-  };
-  first = λ port. first_in (channel_at links (link_to rows core port));
-  room = λ port. room_in (channel_at links (link_from rows core port));
-  bus_word = λ addr. answer_at d (ReadAt (offset_in addr)) (spot_at bus core addr);
-  bus_takes = λ addr word. is_some (answer_at d (WriteAt (offset_in addr) word) (spot_at bus core addr));
-}
-
-no_bus : (d : Devices) (line : Bool) (rows : List LinkRow) (links : List Channel) (core : ℕ) → shows d line no_breaks no_rows [] rows links core ≡ ports_of rows links core
-no_bus d line rows links core = λ i. record {
-  line = false;
-  breaks = no_breaks;
-  hopes = record { interrupt = false; maskable = false; nonmaskable = false };
-  first = λ port. first_in (channel_at links (link_to rows core port));
-  room = λ port. room_in (channel_at links (link_from rows core port));
-  bus_word = λ addr. silent d core addr (ReadAt (offset_in addr)) i;
-  bus_takes = λ addr word. is_some (silent d core addr (WriteAt (offset_in addr) word) i);
-}
-
 pub shown_is : (b : Plan) (f : Fabric) (hosts : ℕ) (pipes : List Pipe) (core : ℕ) → Carries b f hosts pipes → shown f core ≡ ports_of b.rows (map channel_of pipes) core
-shown_is b f hosts pipes core c =
-    let line = or_low (slice_get f.lines core) in
-    let d = f.devices in
-    ap (λ x. shows d line x f.bus f.left f.rows f.links core) (c.calm.breaks core)
-    ∙ ap (λ x. shows d line no_breaks x f.left f.rows f.links core) c.calm.bus
-    ∙ ap (λ x. shows d line no_breaks no_rows x f.rows f.links core) c.calm.left
-    ∙ ap (λ x. shows d line no_breaks no_rows [] x f.links core) c.rows
-    ∙ ap (λ x. shows d line no_breaks no_rows [] b.rows x core) c.links
-    ∙ no_bus d line b.rows (map channel_of pipes) core
+shown_is b f hosts pipes core c = shown_calm f core c.calm ∙ ap (λ rows. ports_of rows f.links core) c.rows ∙ ap (λ links. ports_of b.rows links core) c.links
 
 map_set_some : {X Y : Type 0} (v : X → Y) (f : X → X) (g : Y → Y) (k : ℕ) (xs : List X) (o : Option X) → ((x : X) → o ≡ Some x → v (f x) ≡ g (v x)) → map v (set_some xs k f o) ≡ set_some (map v xs) k g (option_map v o)
 map_set_some v f g k xs None h = refl
@@ -121,11 +73,8 @@ drop_suc (suc n) (x ∷ xs) = drop_suc n xs
 drop_one : {X : Type 0} (n : ℕ) (xs : List X) → drop (n + 1) xs ≡ drop 1 (drop n xs)
 drop_one n xs = rw add-one (drop_suc n xs)
 
-take_suc : {X : Type 0} (n : ℕ) (xs : List X) (x : X) → slice_get xs n ≡ Some x → take (suc n) xs ≡ take n xs ++ x ∷ []
-take_suc zero [] x e = cc
-take_suc zero (y ∷ xs) x e = ap (λ z. z ∷ []) (same_Some y x e)
-take_suc (suc n) [] x e = cc
-take_suc (suc n) (y ∷ xs) x e = ap (λ ys. y ∷ ys) (take_suc n xs x e)
+take_one : {X : Type 0} (n : ℕ) (xs : List X) (x : X) → slice_get xs n ≡ Some x → take (suc n) xs ≡ take n xs ++ x ∷ []
+take_one n xs x e = take-suc xs n x (slice_get_within xs n x e) ∙ ap (λ y. take n xs ++ y ∷ []) (get_or_from_slice_get xs n x x e)
 
 on_same : (l : ℕ) (x : Item) → on_link l (Some (l, x)) ≡ Some x
 on_same l x = rw (eq-eqb l l refl) refl
@@ -162,7 +111,7 @@ told_got : (rows : List LinkRow) (journal : List Entry) (e : Entry) (link : ℕ)
 told_got rows journal e link x p h k first t = record {
   whole = omega (arith, slice_get_within p.sent p.taken x first);
   sent = t.sent ∙ sym (sent_push rows link journal e _ None h refl ∙ append-nil _);
-  got = rw add-one (take_suc p.taken p.sent x first ∙ ap (λ xs. xs ++ x ∷ []) t.got ∙ sym (got_push rows link journal e _ (Some x) k (on_same link x)));
+  got = rw add-one (take_one p.taken p.sent x first ∙ ap (λ xs. xs ++ x ∷ []) t.got ∙ sym (got_push rows link journal e _ (Some x) k (on_same link x)));
 }
 
 -- the links of a fabric, at a link

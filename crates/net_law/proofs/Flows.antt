@@ -1,9 +1,10 @@
 -- What two acts do to the links commutes, where no link has both for its reader or both for its writer.
-use Rattle.std.proofs.Common.{◌≡◌, ℕ, zero, suc, ◌+◌, ◌-◌, List, [], ◌∷◌, ◌++◌, length, map, drop, Option, Some, None, refl, ap, sym, ◌∙◌, inl, inr, ◌⊎◌, arith, slice_get, ltb, true, Bool, length-drop}
+use Rattle.std.proofs.Common.{◌≡◌, ℕ, zero, suc, ◌+◌, ◌-◌, List, [], ◌∷◌, ◌++◌, length, map, drop, Option, Some, None, refl, ap, sym, ◌∙◌, inl, inr, ◌⊎◌, arith, slice_get, ltb, true, Bool, length-drop, add-zero}
 use Rattle.std.specs.Option.{option_map}
 use Rattle.std.proofs.lemmas.Bool.{cases_eq}
 use Rattle.std.proofs.lemmas.Bool.Decides.{nat_tests}
-use Rattle.std.proofs.lemmas.Option.{slice_get-map}
+use Rattle.std.proofs.lemmas.Option.{slice_get-map, slice_get_within}
+use Rattle.circular_buffer.proofs.Places.{slice_get-append_left, slice_get-drop}
 use Rattle.axi_link.specs.declared.item.Item.{Item}
 use Rattle.isa_step.specs.declared.acts.Action.{Action}
 use Rattle.isa_step.specs.declared.acts.Action.TheVariants.{Got, Sent, Seen, Room, Missed, Read, ReadRefused, Wrote, WriteRefused, Took}
@@ -114,20 +115,12 @@ first_at pipes l = first_in (slice_get (map channel_of pipes) l)
 abbrev pub room_at : List Pipe → ℕ → Bool
 room_at pipes l = room_in (slice_get (map channel_of pipes) l)
 
-pub slice_get_drop : {X : Type 0} (n : ℕ) (xs : List X) → slice_get (drop n xs) 0 ≡ slice_get xs n
-slice_get_drop zero [] = refl
-slice_get_drop zero (x ∷ xs) = refl
-slice_get_drop (suc n) [] = refl
-slice_get_drop (suc n) (x ∷ xs) = slice_get_drop n xs
-
-slice_get_front : {X : Type 0} (xs ys : List X) (k : ℕ) (x : X) → slice_get xs k ≡ Some x → slice_get (xs ++ ys) k ≡ Some x
-slice_get_front [] ys k x e = cc
-slice_get_front (y ∷ xs) ys zero x e = e
-slice_get_front (y ∷ xs) ys (suc k) x e = slice_get_front xs ys k x e
+pub first_of_drop : {X : Type 0} (n : ℕ) (xs : List X) → slice_get (drop n xs) 0 ≡ slice_get xs n
+first_of_drop n xs = slice_get-drop n xs 0 n (sym (add-zero n))
 
 first_kept : (y x : Item) (o : Option Pipe) → first_in (option_map channel_of o) ≡ Some x → first_in (option_map channel_of (option_map (gave y) o)) ≡ Some x
 first_kept y x None e = e
-first_kept y x (Some p) e = slice_get_drop p.taken (p.sent ++ y ∷ []) ∙ slice_get_front p.sent (y ∷ []) p.taken x (sym (slice_get_drop p.taken p.sent) ∙ e)
+first_kept y x (Some p) e = first_of_drop p.taken (p.sent ++ y ∷ []) ∙ slice_get-append_left p.sent (y ∷ []) p.taken (slice_get_within p.sent p.taken x (sym (first_of_drop p.taken p.sent) ∙ e)) ∙ sym (first_of_drop p.taken p.sent) ∙ e
 
 less_items : (n t d i j : ℕ) → i ≡ n - t → j ≡ n - (t + 1) → ltb i d ≡ true → ltb j d ≡ true
 less_items n t d i j a b e = grind (arith, nat_tests)

@@ -25,16 +25,16 @@ unfolding take_due
 no_take here a f r = no_take_by a f r (may_take a (is_atomic_here here))
 
 -- what the act that is due does at the ports of a network core
-abbrev pub Flows : (ℕ → Option Item) → Option Action → Type 0
-Flows f (Some (Got p y)) = f p ≡ Some y
-Flows f (Some (Took t)) = ⊥
-Flows f _ = Unit {0}
+abbrev pub IsOffered : (ℕ → Option Item) → Option Action → Type 0
+IsOffered f (Some (Got p y)) = f p ≡ Some y
+IsOffered f (Some (Took t)) = ⊥
+IsOffered f _ = Unit {0}
 
 -- an act that stays as it is when the ports have more to give, leaves the mark, and does what the ports showed
 pub record IsProcess (mark : Bool) (f g : ℕ → Option Item) (deed : Deed) (later : Due) : Type 0 where
   pub again : later ≡ Does deed
   pub mark_stays : deed.arch.network ≡ mark
-  pub moves : Flows f deed.action
+  pub moves : IsOffered f deed.action
 
 abbrev More : (ℕ → Option Item) → (ℕ → Option Item) → Type 0
 More f g = (port : ℕ) (x : Item) → f port ≡ Some x → g port ≡ Some x
@@ -47,40 +47,40 @@ abbrev Processed : Bool → (ℕ → Option Item) → (ℕ → Option Item) → 
 Processed mark f g (Does deed) later = IsProcess mark f g deed later
 Processed mark f g _ later = Unit {0}
 
-got_flows : (f : ℕ → Option Item) (port : ℕ) (x : Item) (o : Option Action) → f port ≡ Some x → GotFrom port x o → Flows f o
-got_flows f port x (Some (Got p y)) e h = rw (h.0, h.1) e
-got_flows f port x (Some (Seen p y)) e h = tt
-got_flows f port x None e h = tt
-got_flows f port x (Some (Took t)) e h = h
-got_flows f port x (Some (Sent p y)) e h = tt
-got_flows f port x (Some (Room p)) e h = tt
-got_flows f port x (Some (Missed p t)) e h = tt
-got_flows f port x (Some (Read p y)) e h = tt
-got_flows f port x (Some (ReadRefused p)) e h = tt
-got_flows f port x (Some (Wrote p y)) e h = tt
-got_flows f port x (Some (WriteRefused p y)) e h = tt
+got_offered : (f : ℕ → Option Item) (port : ℕ) (x : Item) (o : Option Action) → f port ≡ Some x → GotFrom port x o → IsOffered f o
+got_offered f port x (Some (Got p y)) e h = rw (h.0, h.1) e
+got_offered f port x (Some (Seen p y)) e h = tt
+got_offered f port x None e h = tt
+got_offered f port x (Some (Took t)) e h = h
+got_offered f port x (Some (Sent p y)) e h = tt
+got_offered f port x (Some (Room p)) e h = tt
+got_offered f port x (Some (Missed p t)) e h = tt
+got_offered f port x (Some (Read p y)) e h = tt
+got_offered f port x (Some (ReadRefused p)) e h = tt
+got_offered f port x (Some (Wrote p y)) e h = tt
+got_offered f port x (Some (WriteRefused p y)) e h = tt
 
-sent_flows : (f : ℕ → Option Item) (port : ℕ) (o : Option Action) → SentTo port o → Flows f o
-sent_flows f port (Some (Got p y)) h = absurd h
-sent_flows f port (Some (Took t)) h = h
-sent_flows f port None h = tt
-sent_flows f port (Some (Seen p y)) h = tt
-sent_flows f port (Some (Sent p y)) h = tt
-sent_flows f port (Some (Room p)) h = tt
-sent_flows f port (Some (Missed p t)) h = tt
-sent_flows f port (Some (Read p y)) h = tt
-sent_flows f port (Some (ReadRefused p)) h = tt
-sent_flows f port (Some (Wrote p y)) h = tt
-sent_flows f port (Some (WriteRefused p y)) h = tt
+sent_offered : (f : ℕ → Option Item) (port : ℕ) (o : Option Action) → SentTo port o → IsOffered f o
+sent_offered f port (Some (Got p y)) h = absurd h
+sent_offered f port (Some (Took t)) h = h
+sent_offered f port None h = tt
+sent_offered f port (Some (Seen p y)) h = tt
+sent_offered f port (Some (Sent p y)) h = tt
+sent_offered f port (Some (Room p)) h = tt
+sent_offered f port (Some (Missed p t)) h = tt
+sent_offered f port (Some (Read p y)) h = tt
+sent_offered f port (Some (ReadRefused p)) h = tt
+sent_offered f port (Some (Wrote p y)) h = tt
+sent_offered f port (Some (WriteRefused p y)) h = tt
 
-none_flows : (f : ℕ → Option Item) (o : Option Action) → o ≡ None → Flows f o
-none_flows f o e = subst (Flows f) (sym e) tt
+none_offered : (f : ℕ → Option Item) (o : Option Action) → o ≡ None → IsOffered f o
+none_offered f o e = subst (IsOffered f) (sym e) tt
 
 item_processed : (mark : Bool) (f g : ℕ → Option Item) (port : ℕ) (item : Item → Deed) (empty : Option Deed) (o : Option Item) → Steady mark (Gets port item empty) → More f g → f port ≡ o → Processed mark f g (by_item port item empty o) (by_item port item empty (g port))
 item_processed mark f g port item empty (Some x) h more e = record {
   again = ap (by_item port item empty) (more port x e);
   mark_stays = h.0 x;
-  moves = got_flows f port x (item x).action e (h.1 x);
+  moves = got_offered f port x (item x).action e (h.1 x);
 }
 item_processed mark f g port item empty None h more e = rw h.2 tt
 
@@ -88,27 +88,27 @@ room_processed : (mark : Bool) (f g : ℕ → Option Item) (r q : ℕ → Bool) 
 room_processed mark f g r q port room full true h more e = record {
   again = ap (by_room port room full) (more port e);
   mark_stays = h.0;
-  moves = sent_flows f port room.action h.1;
+  moves = sent_offered f port room.action h.1;
 }
 room_processed mark f g r q port room full false h more e = rw h.2 tt
 
 home_processed : (mark : Bool) (f g : ℕ → Option Item) (d : Deed) (t : Bool) → d.arch.network ≡ mark → d.action ≡ None → Processed mark f g (if t then Ends else Does d) (if t then Ends else Does d)
 home_processed mark f g d true h e = tt
-home_processed mark f g d false h e = record { again = refl; mark_stays = h; moves = none_flows f d.action e }
+home_processed mark f g d false h e = record { again = refl; mark_stays = h; moves = none_offered f d.action e }
 
-refused_flows : (f : ℕ → Option Item) (o : Option Action) (addr : ℕ) → o ≡ Some (ReadRefused addr) → Flows f o
-refused_flows f o addr e = subst (Flows f) (sym e) tt
+refused_offered : (f : ℕ → Option Item) (o : Option Action) (addr : ℕ) → o ≡ Some (ReadRefused addr) → IsOffered f o
+refused_offered f o addr e = subst (IsOffered f) (sym e) tt
 
-unwritten_flows : (f : ℕ → Option Item) (o : Option Action) (addr word : ℕ) → o ≡ Some (WriteRefused addr word) → Flows f o
-unwritten_flows f o addr word e = subst (Flows f) (sym e) tt
+unwritten_offered : (f : ℕ → Option Item) (o : Option Action) (addr word : ℕ) → o ≡ Some (WriteRefused addr word) → IsOffered f o
+unwritten_offered f o addr word e = subst (IsOffered f) (sym e) tt
 
 reply_processed : (a : Arch) (mark : Bool) (f g : ℕ → Option Item) (r q : ℕ → Bool) (w : Want) → Steady mark w → More f g → Roomier r q → Processed mark f g (reply a w (calm f r)) (reply a w (calm g q))
-reply_processed a mark f g r q (Goes d) h more roomier = record { again = refl; mark_stays = h.0; moves = none_flows f d.action h.1 }
+reply_processed a mark f g r q (Goes d) h more roomier = record { again = refl; mark_stays = h.0; moves = none_offered f d.action h.1 }
 reply_processed a mark f g r q (Homes d) h more roomier = home_processed mark f g d (is_closed a (calm f r).hopes) h.0 h.1
 reply_processed a mark f g r q (Gets port item empty) h more roomier = item_processed mark f g port item empty (f port) h more refl
 reply_processed a mark f g r q (Puts port room full) h more roomier = room_processed mark f g r q port room full (r port) h roomier refl
-reply_processed a mark f g r q (Reads addr answer) h more roomier = record { again = refl; mark_stays = h.0; moves = refused_flows f (answer None).action addr h.1 }
-reply_processed a mark f g r q (Writes addr word answer) h more roomier = record { again = refl; mark_stays = h.0; moves = unwritten_flows f (answer false).action addr word h.1 }
+reply_processed a mark f g r q (Reads addr answer) h more roomier = record { again = refl; mark_stays = h.0; moves = refused_offered f (answer None).action addr h.1 }
+reply_processed a mark f g r q (Writes addr word answer) h more roomier = record { again = refl; mark_stays = h.0; moves = unwritten_offered f (answer false).action addr word h.1 }
 
 awake_processed : (here : Option Here) (o : Operands) (a : Arch) (m : List ℕ) (f g : ℕ → Option Item) (r q : ℕ → Bool) (asleep : Bool) → a.network ≡ true → More f g → Roomier r q → Processed a.network f g (awake here o a m (calm f r) asleep) (awake here o a m (calm g q) asleep)
 awake_processed here o a m f g r q true h more roomier = tt

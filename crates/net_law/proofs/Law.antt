@@ -26,10 +26,12 @@ use Rattle.board_machine.specs.Resting.{Still, idle_here}
 use Rattle.board_machine.proofs.Lists.{slice_get_in, some_of}
 use Rattle.net_law.specs.Network.{Pipe, Plan, Process, Net, took, gave, Actor, Core, Source, Sink, acts, channel_of, does, everyone, history, plain, ports_of, sink_acts, source_acts, to_come}
 use Rattle.net_law.proofs.Parts.{began, core_acts, plan_of, sends, sent_through, start, takes, unused}
-use Rattle.net_law.specs.Law.{IsNetwork, IsPrefixOf, acts_in, got_on, process_of, sent_on}
+use Rattle.net_law.specs.Boards.{IsNetwork}
+use Rattle.net_law.specs.Law.{IsPrefixOf, acts_in, got_on, process_of, sent_on}
 use Rattle.net_law.proofs.Confluence.{In, Path, run_leads, rest_is_rounds, rounds_good, rounds_lead}
 use Rattle.net_law.proofs.Flows.{Flow, Still as Nowhere, Take, Put, flows, channel_is, touch_same, touch_other}
 use Rattle.net_law.proofs.Diamond.{Marked, acted, become, diamond, map_some, marked_keeps}
+use Rattle.net_law.proofs.Calm.{all_low, none_pending}
 use Rattle.net_law.proofs.Carried.{Carries, Told, feed_at, hosts_in, shown_is}
 use Rattle.net_law.proofs.Simulation.{Matches, WorldRun, next_fed, room_inv, sim_steps}
 
@@ -171,16 +173,6 @@ feeds_fresh (r ∷ rows) inputs k d e = fresh_at r.from (feeds_of rows) inputs k
 fed_start : (p : Pipe) (o : Option Feed) → p.sent ≡ [] → ((d : Feed) → o ≡ Some d → d.place ≡ 0) → o ≡ option_map (feed_at p) o
 fed_start p None e h = refl
 fed_start p (Some d) e h = ap (λ (n : ℕ). let x : Feed = record { items = d.items; place = n } in Some x) (h d refl ∙ sym (ap length e))
-
-all_low : {X : Type 0} (xs : List X) (k : ℕ) → or_low (slice_get (map (λ (x : X). false) xs) k) ≡ false
-all_low [] k = refl
-all_low (x ∷ xs) zero = refl
-all_low (x ∷ xs) (suc k) = all_low xs k
-
-none_pending : {X : Type 0} (xs : List X) (k : ℕ) → or_none (slice_get (map (λ (x : X). no_breaks) xs) k) ≡ no_breaks
-none_pending [] k = refl
-none_pending (x ∷ xs) zero = refl
-none_pending (x ∷ xs) (suc k) = none_pending xs k
 
 pub marked_start : (b : BoardFile) (views : List View) → IsNetwork b views → Marked (start b.links views)
 marked_start b views i core p e =

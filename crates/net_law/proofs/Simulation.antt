@@ -33,132 +33,13 @@ use Rattle.net_law.specs.Network.{Pipe, Plan, Process, Net, Actor, Core, Source,
 use Rattle.net_law.proofs.Parts.{core_acts, sends, takes}
 use Rattle.net_law.specs.Law.{process_of}
 use Rattle.net_law.proofs.Confluence.{path_append}
-use Rattle.net_law.proofs.Flows.{flow_of, flows, putting, taking, channel_is, slice_get_drop, touch_same, touch_other}
-use Rattle.net_law.proofs.Kahn.{Flows, is_process}
+use Rattle.net_law.proofs.Flows.{flow_of, flows, putting, taking, channel_is, first_of_drop, touch_same, touch_other}
+use Rattle.net_law.proofs.Kahn.{IsOffered, is_process}
 use Rattle.net_law.proofs.Diamond.{does_is, map_some, Marked, marked_keeps, source_of, writer_of}
-use Rattle.net_law.proofs.Carried.{Calm, Carries, no_rows, Fed, feed_at, hosts_push, links_after_got, links_after_put, note_carries, shown_is, told_after_got, told_after_put}
+use Rattle.net_law.proofs.Calm.{devices_calm, same_calm}
+use Rattle.net_law.proofs.Carried.{Carries, Fed, feed_at, hosts_push, links_after_got, links_after_put, note_carries, shown_is, told_after_got, told_after_put}
 
--- the input files
-
-fed_took_at : (b : Plan) (feeds : List Feed) (pipes : List Pipe) (l link : ℕ) (p : Pipe) → Fed b feeds pipes → (link ≡ l) ⊎ (link ≡ l → ⊥) → part_at (slice_get b.rows link) ≡ Sends → slice_get (touch took l pipes) link ≡ Some p → slice_get feeds link ≡ option_map (feed_at p) (slice_get b.feeds link)
-fed_took_at b feeds pipes l link p fed (inr ne) w q = fed link p w (sym (touch_other took link l pipes ne) ∙ q)
-fed_took_at b feeds pipes l link p fed (inl eq) w q =
-    let d = map_some took (slice_get pipes link) p (sym (touch_same took link pipes) ∙ ap (λ m. slice_get (touch took m pipes) link) eq ∙ q) in
-    fed link d.0 w d.1 ∙ ap (λ m. option_map (feed_at m) (slice_get b.feeds link)) d.2
-
-fed_put_at : (b : Plan) (feeds : List Feed) (pipes : List Pipe) (l : ℕ) (x : Item) (link : ℕ) (p : Pipe) → (part_at (slice_get b.rows l) ≡ Sends → ⊥) → Fed b feeds pipes → (link ≡ l) ⊎ (link ≡ l → ⊥) → part_at (slice_get b.rows link) ≡ Sends → slice_get (touch (gave x) l pipes) link ≡ Some p → slice_get feeds link ≡ option_map (feed_at p) (slice_get b.feeds link)
-fed_put_at b feeds pipes l x link p port_end fed (inr ne) w q = fed link p w (sym (touch_other (gave x) link l pipes ne) ∙ q)
-fed_put_at b feeds pipes l x link p port_end fed (inl eq) w q = absurd (port_end (ap (λ k. part_at (slice_get b.rows k)) (sym eq) ∙ w))
-
-advanced_at : (x : Item) (p : Pipe) (o : Option Feed) → option_map advanced (option_map (feed_at p) o) ≡ option_map (feed_at (gave x p)) o
-advanced_at x p None = refl
-advanced_at x p (Some d) = ap (λ n. let d : Feed = record { items = d.items; place = n } in Some d) (let k : length p.sent + 1 ≡ length (p.sent ++ x ∷ []) = omega (arith, length-append p.sent (x ∷ [])) in k)
-
-fed_host_at : (b : Plan) (feeds : List Feed) (pipes : List Pipe) (l : ℕ) (x : Item) (link : ℕ) (p : Pipe) → Fed b feeds pipes → (link ≡ l) ⊎ (link ≡ l → ⊥) → part_at (slice_get b.rows link) ≡ Sends → slice_get (touch (gave x) l pipes) link ≡ Some p → slice_get (touch advanced l feeds) link ≡ option_map (feed_at p) (slice_get b.feeds link)
-fed_host_at b feeds pipes l x link p fed (inr ne) w q = touch_other advanced link l feeds ne ∙ fed link p w (sym (touch_other (gave x) link l pipes ne) ∙ q)
-fed_host_at b feeds pipes l x link p fed (inl eq) w q =
-    let d = map_some (gave x) (slice_get pipes link) p (sym (touch_same (gave x) link pipes) ∙ ap (λ m. slice_get (touch (gave x) m pipes) link) eq ∙ q) in
-    ap (λ m. slice_get (touch advanced m feeds) link) (sym eq) ∙ touch_same advanced link feeds ∙ ap (option_map advanced) (fed link d.0 w d.1) ∙ advanced_at x d.0 (slice_get b.feeds link) ∙ ap (λ m. option_map (feed_at m) (slice_get b.feeds link)) d.2
-
-same_calm : (f g : Fabric) → g.lines ≡ f.lines → g.pending ≡ f.pending → g.left ≡ f.left → g.bus ≡ f.bus → Calm f → Calm g
-same_calm f g l p e d c = record {
-  line = λ k. rw l (c.line k);
-  breaks = λ k. rw p (c.breaks k);
-  left = e ∙ c.left;
-  bus = d ∙ c.bus;
-}
-
--- an entry of a core or of the host
-
-got_by_core : (b : Plan) (f : Fabric) (hosts : ℕ) (pipes : List Pipe) (core act port : ℕ) (item : Item) (l : ℕ) → link_to b.rows core port ≡ Some l → ((p : Pipe) → slice_get pipes l ≡ Some p → slice_get p.sent p.taken ≡ Some item) → Carries b f hosts pipes → Carries b (entered core act (Got port item) f) hosts (touch took l pipes)
-got_by_core b f hosts pipes core act port item l h first c = record {
-  rows = c.rows;
-  links = rw (c.rows, h, c.links) (sym (links_after_got l pipes));
-  told = λ link p q. told_after_got b.rows f.journal _ l item pipes refl (ap (option_map (λ link. (link, item))) h) first c.told link p (cases_eq link l) q;
-  fed = λ link p w q. fed_took_at b f.feeds pipes l link p c.fed (cases_eq link l) w q;
-  calm = same_calm f (entered core act (Got port item) f) refl refl refl refl c.calm;
-  count = hosts_push f.journal (entry_of f.cycle core act (Got port item)) false refl ∙ add-zero _ ∙ c.count;
-}
-
-not_source : (b : Plan) (core port l : ℕ) → link_from b.rows core port ≡ Some l → part_at (slice_get b.rows l) ≡ Sends → ⊥
-not_source b core port l h w = let k : Some (Source l) ≡ Some (Core core) = sym (source_of b.rows l w) ∙ writer_of b.rows core port l h in cc
-
-sent_by_core : (b : Plan) (f : Fabric) (hosts : ℕ) (pipes : List Pipe) (core act port : ℕ) (item : Item) (l : ℕ) → link_from b.rows core port ≡ Some l → Carries b f hosts pipes → Carries b (entered core act (Sent port item) f) hosts (touch (gave item) l pipes)
-sent_by_core b f hosts pipes core act port item l h c = record {
-  rows = c.rows;
-  links = rw (c.rows, h, c.links) (sym (links_after_put b.rows f.journal l item pipes c.told));
-  told = λ link p q. told_after_put b.rows f.journal _ l item pipes (ap (option_map (λ link. (link, item))) h) refl c.told link p (cases_eq link l) q;
-  fed = λ link p w q. fed_put_at b f.feeds pipes l item link p (not_source b core port l h) c.fed (cases_eq link l) w q;
-  calm = same_calm f (entered core act (Sent port item) f) refl refl refl refl c.calm;
-  count = hosts_push f.journal (entry_of f.cycle core act (Sent port item)) false refl ∙ add-zero _ ∙ c.count;
-}
-
-got_by_host : (b : Plan) (f : Fabric) (hosts : ℕ) (pipes : List Pipe) (item : Item) (l : ℕ) → ((p : Pipe) → slice_get pipes l ≡ Some p → slice_get p.sent p.taken ≡ Some item) → Carries b f hosts pipes → Carries b (entered no_core 0 (HostGot l item) f) (hosts + 1) (touch took l pipes)
-got_by_host b f hosts pipes item l first c = record {
-  rows = c.rows;
-  links = rw c.links (sym (links_after_got l pipes));
-  told = λ link p q. told_after_got b.rows f.journal _ l item pipes refl refl first c.told link p (cases_eq link l) q;
-  fed = λ link p w q. fed_took_at b f.feeds pipes l link p c.fed (cases_eq link l) w q;
-  calm = same_calm f (entered no_core 0 (HostGot l item) f) refl refl refl refl c.calm;
-  count = hosts_push f.journal (entry_of f.cycle no_core 0 (HostGot l item)) true refl ∙ ap (λ n. n + 1) c.count;
-}
-
-sent_by_host : (b : Plan) (f : Fabric) (hosts : ℕ) (pipes : List Pipe) (item : Item) (l : ℕ) → Carries b f hosts pipes → Carries b (entered no_core 0 (HostSent l item) f) (hosts + 1) (touch (gave item) l pipes)
-sent_by_host b f hosts pipes item l c = record {
-  rows = c.rows;
-  links = rw c.links (sym (links_after_put b.rows f.journal l item pipes c.told));
-  told = λ link p q. told_after_put b.rows f.journal _ l item pipes refl refl c.told link p (cases_eq link l) q;
-  fed = λ link p w q. fed_host_at b f.feeds pipes l item link p c.fed (cases_eq link l) w q;
-  calm = same_calm f (entered no_core 0 (HostSent l item) f) refl refl refl refl c.calm;
-  count = hosts_push f.journal (entry_of f.cycle no_core 0 (HostSent l item)) true refl ∙ ap (λ n. n + 1) c.count;
-}
-
--- the action of a core's act, and then the entry of the act itself
-
-first_is : (pipes : List Pipe) (l : ℕ) (x : Item) → first_in (slice_get (map channel_of pipes) l) ≡ Some x → (p : Pipe) → slice_get pipes l ≡ Some p → slice_get p.sent p.taken ≡ Some x
-first_is pipes l x h p e = sym (slice_get_drop p.taken p.sent) ∙ sym (ap first_in (channel_is pipes l ∙ ap (option_map channel_of) e)) ∙ h
-
-got_carries : (b : Plan) (f : Fabric) (hosts : ℕ) (pipes : List Pipe) (core act port : ℕ) (item : Item) (o : Option ℕ) → link_to b.rows core port ≡ o → first_in (channel_at (map channel_of pipes) o) ≡ Some item → Carries b f hosts pipes → Carries b (entered core act (Got port item) f) hosts (flows (taking o) pipes)
-got_carries b f hosts pipes core act port item None h first c = cc
-got_carries b f hosts pipes core act port item (Some l) h first c = got_by_core b f hosts pipes core act port item l h (first_is pipes l item first) c
-
-sent_carries : (b : Plan) (f : Fabric) (hosts : ℕ) (pipes : List Pipe) (core act port : ℕ) (item : Item) (o : Option ℕ) → link_from b.rows core port ≡ o → Carries b f hosts pipes → Carries b (entered core act (Sent port item) f) hosts (flows (putting item o) pipes)
-sent_carries b f hosts pipes core act port item None h c = note_carries b f hosts pipes core act (Sent port item) (record {
-  links = rw (c.rows, h) refl;
-  feeds = refl;
-  pending = refl;
-  line = refl;
-  put = rw h refl;
-  taken = refl;
-  host = refl;
-}) c
-sent_carries b f hosts pipes core act port item (Some l) h c = sent_by_core b f hosts pipes core act port item l h c
-
-abbrev first_shown : Plan → List Pipe → ℕ → ℕ → Option Item
-first_shown b pipes core port = first_in (channel_at (map channel_of pipes) (link_to b.rows core port))
-
-action_carries : (b : Plan) (f : Fabric) (hosts : ℕ) (pipes : List Pipe) (core act : ℕ) (o : Option Action) → Flows (first_shown b pipes core) o → Carries b f hosts pipes → Carries b (entered_some core act (entries_of_action o) f) hosts (flows (flow_of b.rows core o) pipes)
-action_carries b f hosts pipes core act None h c = c
-action_carries b f hosts pipes core act (Some (action.Got port item)) h c = got_carries b f hosts pipes core act port item (link_to b.rows core port) refl h c
-action_carries b f hosts pipes core act (Some (action.Sent port item)) h c = sent_carries b f hosts pipes core act port item (link_from b.rows core port) refl c
-action_carries b f hosts pipes core act (Some (action.Seen port item)) h c = note_carries b f hosts pipes core act (Seen port item) (record { links = refl; feeds = refl; pending = refl; line = refl; put = refl; taken = refl; host = refl }) c
-action_carries b f hosts pipes core act (Some (action.Room port)) h c = note_carries b f hosts pipes core act (Room port) (record { links = refl; feeds = refl; pending = refl; line = refl; put = refl; taken = refl; host = refl }) c
-action_carries b f hosts pipes core act (Some (action.Missed port full)) h c = note_carries b f hosts pipes core act (Missed port full) (record { links = refl; feeds = refl; pending = refl; line = refl; put = refl; taken = refl; host = refl }) c
-action_carries b f hosts pipes core act (Some (action.Read addr word)) h c = note_carries b f hosts pipes core act (Read addr word) (record { links = refl; feeds = refl; pending = refl; line = refl; put = refl; taken = refl; host = refl }) c
-action_carries b f hosts pipes core act (Some (action.ReadRefused addr)) h c = note_carries b f hosts pipes core act (ReadRefused addr) (record { links = refl; feeds = refl; pending = refl; line = refl; put = refl; taken = refl; host = refl }) c
-action_carries b f hosts pipes core act (Some (action.Wrote addr word)) h c = note_carries b f hosts pipes core act (Wrote addr word) (record { links = refl; feeds = refl; pending = refl; line = refl; put = refl; taken = refl; host = refl }) c
-action_carries b f hosts pipes core act (Some (action.WriteRefused addr word)) h c = note_carries b f hosts pipes core act (WriteRefused addr word) (record { links = refl; feeds = refl; pending = refl; line = refl; put = refl; taken = refl; host = refl }) c
-action_carries b f hosts pipes core act (Some (action.Took t)) h c = absurd h
-
-act_carries : (b : Plan) (f : Fabric) (hosts : ℕ) (pipes : List Pipe) (core act : ℕ) (a : Act) → Carries b f hosts pipes → Carries b (entered_some core act (entry_of_act a) f) hosts pipes
-act_carries b f hosts pipes core act kind.Retired c = c
-act_carries b f hosts pipes core act (kind.Took t) c = c
-act_carries b f hosts pipes core act kind.Slept c = note_carries b f hosts pipes core act Slept (record { links = refl; feeds = refl; pending = refl; line = refl; put = refl; taken = refl; host = refl }) c
-act_carries b f hosts pipes core act (kind.Raised esr) c = note_carries b f hosts pipes core act (Raised esr) (record { links = refl; feeds = refl; pending = refl; line = refl; put = refl; taken = refl; host = refl }) c
-act_carries b f hosts pipes core act (kind.Stopped cause) c = note_carries b f hosts pipes core act (Stopped cause) (record { links = refl; feeds = refl; pending = refl; line = refl; put = refl; taken = refl; host = refl }) c
-
-deed_carries : (b : Plan) (f : Fabric) (hosts : ℕ) (pipes : List Pipe) (core act : ℕ) (deed : Deed) → Flows (first_shown b pipes core) deed.action → Carries b f hosts pipes → Carries b (act_leaves core act deed f) hosts (flows (flow_of b.rows core deed.action) pipes)
-deed_carries b f hosts pipes core act deed h c = act_carries b (entered_some core act (entries_of_action deed.action) f) hosts (flows (flow_of b.rows core deed.action) pipes) core act deed.done.act (action_carries b f hosts pipes core act deed.action h c)
+use Rattle.net_law.proofs.Entries.{deed_carries, first_is, first_shown, got_by_host, sent_by_host}
 
 -- the host
 
@@ -294,8 +175,8 @@ quiet_wait b n w v core count on h m i =
     (subst (λ f. Carries b f m.hosts n.pipes) (sym i.fabric) (wait_carries b n.pipes core h.was.acts on w.fabric m.hosts (is_kept core h.was.acts w.fabric.journal) m.carries))
 
 -- the core did the act that is due
-act_flows : (b : Plan) (pipes : List Pipe) (core : ℕ) (v : View) (deed : Deed) → v.arch.network ≡ true → due v (ports_of b.rows (map channel_of pipes) core) ≡ Does deed → Flows (first_shown b pipes core) deed.action
-act_flows b pipes core v deed h e =
+act_offered : (b : Plan) (pipes : List Pipe) (core : ℕ) (v : View) (deed : Deed) → v.arch.network ≡ true → due v (ports_of b.rows (map channel_of pipes) core) ≡ Does deed → IsOffered (first_shown b pipes core) deed.action
+act_offered b pipes core v deed h e =
     let f = λ (port : ℕ). first_in (channel_at (map channel_of pipes) (link_to b.rows core port)) in
     let r = λ (port : ℕ). room_in (channel_at (map channel_of pipes) (link_from b.rows core port)) in
     (is_process v f f r r deed h (λ port x q. q) (λ port q. q) e).moves
@@ -317,7 +198,7 @@ one_act b n w v core count deed h m e act =
         processes = ap (λ ps. slice_set ps core (record { view = after h.was.view deed; acts = h.was.acts + 1 })) m.processes
             ∙ sym (processes_after w v core h ∙ ap (λ (s : CoreAt). slice_set (map process_of w.cores) core (process_of s)) act.state);
         hosts = m.hosts;
-        carries = subst (λ f. Carries b f m.hosts net.pipes) (sym act.fabric) (deed_carries b w.fabric m.hosts n.pipes core h.was.acts deed (act_flows b n.pipes core h.was.view deed (m.marked core (process_of h.was) there) d) m.carries);
+        carries = subst (λ f. Carries b f m.hosts net.pipes) (sym act.fabric) (deed_carries b w.fabric m.hosts n.pipes core h.was.acts deed (act_offered b n.pipes core h.was.view deed (m.marked core (process_of h.was) there) d) m.carries);
         marked = marked_keeps b (Core core) n net m.marked a;
         counted =
             let s = sum_set (λ (s : CoreAt). s.acts) w.cores core h.was h.is h.there in
@@ -334,34 +215,6 @@ sim_tick b n w v core count (Waits port full) h m e (inr i) = quiet_filling b n 
 sim_tick b n w v core count Sleeps h m e i = quiet_idle b n w v core count h m i
 sim_tick b n w v core count Ends h m e i = quiet_idle b n w v core count h m i
 sim_tick b n w v core count (Stops cause) h m e i = quiet_idle b n w v core count h m i
-
--- where there is no device and no break, the step of the devices changes nothing
-
-no_breaks_come : (f : Fabric) (left : List EventRow) → f.left ≡ left → left ≡ [] → breaks_come f ≡ f
-no_breaks_come f left e n = rw (e ∙ n) refl
-
-none_moved : (f : Fabric) → f.bus ≡ no_rows → devices_moved f ≡ f
-none_moved f e =
-    let timers : timers_moved f ≡ f = ap (λ (bus : DeviceRows). with_devices (in_order timer_moved (length bus.timers) f.devices) f) e in
-    let uarts : in_order uart_moved (length f.bus.uarts) f ≡ f = ap (λ (bus : DeviceRows). in_order uart_moved (length bus.uarts) f) e in
-    let intcs : intcs_moved f ≡ f = ap (λ (bus : DeviceRows). with_devices (in_order (intc_moved bus) (length bus.intcs) f.devices) f) e in
-    ap (λ (g : Fabric). intcs_moved (in_order uart_moved (length f.bus.uarts) g)) timers ∙ ap intcs_moved uarts ∙ intcs
-
-latch_calm : (cores : List CoreAt) (core : ℕ) (f : Fabric) → Calm f → line_latched cores core f ≡ f
-latch_calm cores core f c =
-    let act = acts_of (slice_get cores core) in
-    let low : line_driven f core ≡ false = ap (λ (bus : DeviceRows). output_of (controller f.devices.intcs (position (is_on core) bus.intcs))) c.bus in
-    ap (λ high. entered_some core act (line_change high (or_low (slice_get f.lines core))) f) low ∙ ap (λ high. entered_some core act (line_change false high) f) (c.line core)
-
-none_latched : (cores : List CoreAt) (n : ℕ) (f : Fabric) → Calm f → in_order (line_latched cores) n f ≡ f
-none_latched cores zero f c = refl
-none_latched cores (suc n) f c = ap (line_latched cores n) (none_latched cores n f c) ∙ latch_calm cores n f c
-
-devices_calm : (cores : List CoreAt) (f : Fabric) → Calm f → devices_done cores f ≡ f
-unfolding devices_done
-devices_calm cores f c =
-    let latched = in_order (line_latched cores) (length cores) in
-    ap (λ (g : Fabric). latched (devices_moved g)) (no_breaks_come f f.left refl c.left) ∙ ap latched (none_moved f c.bus) ∙ none_latched cores (length cores) f c
 
 -- one event is a run of acts
 pub sim_step : (b : Plan) (n : Net) (w v : World) (e : Event) (count : ℕ) → Matches b w n count → Step w e v → WorldRun b n v count

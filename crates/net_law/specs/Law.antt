@@ -16,16 +16,8 @@ use Rattle.board_machine.specs.Fabric.{link_from, link_to, part_at}
 use Rattle.board_machine.specs.World.{CoreAt, Inputs, Reached, World}
 use Rattle.board_machine.specs.Resting.{Still}
 use Rattle.board_machine.specs.Runs.{KeepsRuns}
+use Rattle.net_law.specs.Boards.{IsNetwork}
 use Rattle.net_law.specs.Network.{Process, history, plain}
-
--- a network board: its cores are joined by links alone, and know it
-pub record IsNetwork (b : BoardFile) (views : List View) : Type 0 where
-  pub network : b.network ≡ true
-  pub marked : (core : ℕ) (v : View) → slice_get views core ≡ Some v → v.arch.network ≡ true
-  pub timers : b.timers ≡ []
-  pub intcs : b.intcs ≡ []
-  pub uarts : b.uarts ≡ []
-  pub events : b.events ≡ []
 
 -- the journal's history of a link
 

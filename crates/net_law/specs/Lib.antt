@@ -1,3 +1,4 @@
 pub mod Rounds
 pub mod Network
+pub mod Boards
 pub mod Law

@@ -5,7 +5,14 @@
 //! which a run of the board follows.
 #![tactic(auto)]
 
+ghost use Rattle.net_law.specs.Boards.{ReadBoardsAreNetworks};
 ghost use Rattle.net_law.specs.Law.{NetworkLaw, RunsAgree, RunsKeepNetwork};
+
+/// A board file that says `network = true` has no device and no event.
+#[tactic(auto, using(crate::proofs::Reading::read_boards))]
+pub fn network_boards_have_links_alone()
+    ensures { ReadBoardsAreNetworks }
+{}
 
 /// After any list of events each link has carried a prefix of the reference network's history, and each output file is a
 /// prefix of that history's file; at rest they are equal to it, and so are each core's view and acts.
