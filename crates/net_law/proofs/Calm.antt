@@ -1,5 +1,5 @@
 -- Nothing but its links reaches a core of a network board, whatever the events.
-use Rattle.std.proofs.Common.{◌≡◌, ℕ, zero, suc, List, [], ◌∷◌, length, map, Option, None, refl, ap, ◌∙◌, slice_get, position, Bool, true, false, ◌&&◌, ◌||◌}
+use Rattle.std.proofs.Common.{◌≡◌, ℕ, zero, suc, List, [], ◌∷◌, length, map, None, refl, ap, ◌∙◌, slice_get, position, Bool, true, false, ◌&&◌, ◌||◌}
 use Rattle.std.specs.Option.{is_some}
 use Rattle.std.specs.List.{list_any}
 use Rattle.axi_link.specs.Channel.{Channel}

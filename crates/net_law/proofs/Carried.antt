@@ -1,7 +1,7 @@
 -- A fabric carries the pipes of the reference network, and an entry moves both alike.
-use Rattle.std.proofs.Common.{◌≡◌, ℕ, zero, suc, ◌+◌, ◌≤◌, List, [], ◌∷◌, ◌++◌, length, map, take, drop, filter, Option, Some, None, refl, ap, sym, ◌∙◌, subst, inl, inr, ◌⊎◌, arith, slice_get, Bool, true, false, cond, length-append, set, add-one, add-zero, ◌&&◌, ◌||◌}
-use Rattle.std.specs.Option.{is_some, option_map}
-use Rattle.std.specs.List.{cons_option, list_any}
+use Rattle.std.proofs.Common.{◌≡◌, ℕ, zero, suc, ◌+◌, ◌≤◌, List, [], ◌∷◌, ◌++◌, length, map, take, drop, filter, Option, Some, None, refl, ap, sym, ◌∙◌, subst, inl, inr, ◌⊎◌, arith, slice_get, Bool, true, false, cond, length-append, set, add-one, add-zero}
+use Rattle.std.specs.Option.{option_map}
+use Rattle.std.specs.List.{cons_option}
 use Rattle.std.proofs.Math.Seq.{take-suc}
 use Rattle.std.proofs.lemmas.Option.{get_or_from_slice_get, slice_get-map, slice_get_within}
 use Rattle.std.proofs.lemmas.Bool.{eq-eqb, ne_eqb}
@@ -10,17 +10,12 @@ use Rattle.std.proofs.lemmas.List.Elements.{filter-append, filter_map-append}
 use Rattle.axi_link.specs.declared.item.Item.{Item}
 use Rattle.axi_link.specs.Channel.{Channel, with_newest, without_oldest}
 use Rattle.isa_step.specs.declared.acts.Breaks.{Breaks}
-use Rattle.isa_step.specs.Shown.{Shown}
 use Rattle.run_journal.specs.declared.entry.Entry.{Entry}
 use Rattle.run_journal.specs.declared.entry.What.{What}
-use Rattle.board_file.specs.declared.board.EventRow.{EventRow}
 use Rattle.board_file.specs.declared.board.LinkRow.{LinkRow}
 use Rattle.board_machine.specs.declared.events.HostPart.TheVariants.{Sends}
 use Rattle.board_machine.specs.Places.{set_some, touch}
-use Rattle.bus_map.specs.declared.device.Access.{Access}
-use Rattle.bus_map.specs.declared.device.Access.TheVariants.{Read as ReadAt, Write as WriteAt}
-use Rattle.board_machine.specs.Bus.{DeviceRows, Devices, answer_at, offset_in, spot_at}
-use Rattle.board_machine.specs.Fabric.{Fabric, Feed, breaks_at, channel_at, entered, entry_of, feeds_after, first_in, is_break, is_on, line_set, line_told, link_from, link_to, links_after, no_breaks, or_low, or_none, part_at, pending_after, room_in, shown}
+use Rattle.board_machine.specs.Fabric.{Fabric, Feed, entered, entry_of, feeds_after, line_set, line_told, links_after, or_low, or_none, part_at, pending_after, shown}
 use Rattle.net_law.specs.Network.{Pipe, Plan, channel_of, gave, ports_of, took}
 use Rattle.net_law.specs.Law.{got_on, is_move_of_host, on_link, put_of, sent_on, taken_of}
 use Rattle.net_law.proofs.Flows.{touch_same, touch_other}

@@ -20,7 +20,7 @@ use Rattle.board_file.specs.declared.board.LinkRow.{LinkRow}
 use Rattle.board_machine.specs.declared.events.HostPart.{HostPart}
 use Rattle.board_machine.specs.declared.events.HostPart.TheVariants.{Sends, Takes, Nothing}
 use Rattle.board_machine.specs.Places.{set_some, touch}
-use Rattle.board_machine.specs.Fabric.{Fabric, Feed, first_in, got_of, move_by, move_of, next_of, no_breaks, or_low, or_none, part_at, room_in, sent_of}
+use Rattle.board_machine.specs.Fabric.{Fabric, Feed, first_in, got_of, move_by, move_of, next_of, or_low, or_none, part_at, room_in, sent_of}
 use Rattle.board_machine.specs.World.{World, CoreAt, Inputs, Start, Reached, blobs_after, feed_of, feeds_of}
 use Rattle.board_machine.specs.Resting.{Still, idle_here}
 use Rattle.board_machine.proofs.Lists.{slice_get_in, some_of}

@@ -1,5 +1,5 @@
 -- A board that was read and is a network has no device and no event.
-use Rattle.std.proofs.Common.{◌≡◌, ℕ, List, [], ◌∷◌, ◌++◌, Option, Some, None, flat_map, refl, sym, ◌∙◌, subst, Bool, true, false}
+use Rattle.std.proofs.Common.{◌≡◌, ℕ, List, [], ◌∷◌, ◌++◌, Option, flat_map, refl, sym, ◌∙◌, subst, true, false}
 use Rattle.std.specs.Option.{is_some}
 use Rattle.toml.specs.Data.{Data, Members, table, no_members, member}
 use Rattle.board_file.proofs.Values.{both_nil, none_from_nil}
@@ -10,10 +10,9 @@ use Rattle.board_file.specs.Keys.{row_keys, tables}
 use Rattle.board_file.specs.Rows.{AreRows}
 use Rattle.board_file.specs.Rules.{count_faults, each_row, inner_faults, is_network, keys_faults, row_code, row_faults, stray_faults, table_faults, top_faults, value_faults}
 use Rattle.board_file.specs.Tree.{inside, row_place, rows_in}
-use Rattle.board_file.specs.declared.board.BoardFile.{BoardFile}
 use Rattle.board_file.specs.declared.keys.Rows.{Rows}
 use Rattle.board_file.specs.declared.keys.Rows.TheVariants as rows
-use Rattle.net_law.specs.Boards.{IsNetwork, ReadBoardsAreNetworks}
+use Rattle.net_law.specs.Boards.{ReadBoardsAreNetworks}
 
 -- a table of which a network board has no row
 abbrev IsBanned : Rows → Type 0

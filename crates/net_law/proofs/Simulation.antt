@@ -1,44 +1,35 @@
 -- Each step of the board machine is a run of the reference network's acts.
-use Rattle.std.proofs.Common.{◌≡◌, ℕ, zero, suc, ◌+◌, List, [], ◌∷◌, ◌++◌, length, map, Option, Some, None, refl, ap, sym, ◌∙◌, subst, inl, inr, ◌⊎◌, arith, slice_get, slice_set, position, Bool, true, false, cond, length-append, add-zero}
+use Rattle.std.proofs.Common.{◌≡◌, ℕ, zero, suc, ◌+◌, List, [], ◌∷◌, ◌++◌, length, map, Option, Some, None, refl, ap, sym, ◌∙◌, subst, inl, inr, arith, slice_get, slice_set, Bool, true, false, cond, length-append, add-zero}
 use Rattle.std.specs.Option.{option_map}
 use Rattle.std.specs.List.{sum_by}
 use Rattle.std.proofs.lemmas.Option.{slice_get-map, slice_get_within, get_or_from_slice_get}
 use Rattle.std.proofs.lemmas.List.Sums.{sum_by-set}
-use Rattle.std.proofs.lemmas.Bool.{cases_eq}
 use Rattle.std.proofs.lemmas.List.{map-set}
 use Rattle.axi_link.specs.declared.item.Item.{Item}
 use Rattle.axi_link.specs.Channel.{Channel}
 use Rattle.core_regs.specs.declared.causes.WaitOn.{WaitOn}
-use Rattle.isa_step.specs.declared.acts.Act.{Act}
-use Rattle.isa_step.specs.declared.acts.Act.TheVariants as kind
-use Rattle.isa_step.specs.declared.acts.Action.{Action}
-use Rattle.isa_step.specs.declared.acts.Action.TheVariants as action
 use Rattle.isa_step.specs.Deeds.{View, Deed, Due, Does, Waits, Sleeps, Ends, Stops, after}
 use Rattle.isa_step.specs.Due.{due}
-use Rattle.run_journal.specs.declared.entry.What.TheVariants.{Got, Sent, Seen, Room, Missed, Read, ReadRefused, Wrote, WriteRefused, Raised, Slept, Stopped, Wait, HostSent, HostGot}
-use Rattle.board_file.specs.declared.board.EventRow.{EventRow}
+use Rattle.run_journal.specs.declared.entry.What.TheVariants.{Wait}
 use Rattle.board_file.specs.declared.board.LinkRow.{LinkRow}
 use Rattle.board_machine.specs.declared.events.Event.{Event}
 use Rattle.board_machine.specs.declared.events.Event.TheVariants.{Devices, Host, Tick, Next}
 use Rattle.board_machine.specs.declared.events.HostPart.{HostPart}
 use Rattle.board_machine.specs.declared.events.HostPart.TheVariants.{Sends, Takes, Nothing}
 use Rattle.board_machine.specs.Places.{touch}
-use Rattle.board_machine.specs.Fabric.{Fabric, Feed, act_leaves, advanced, breaks_come, channel_at, entered, entered_some, entries_of_action, entry_of, entry_of_act, first_in, got_of, host_moves, is_kept, is_on, link_from, link_to, move_by, moved, next_of, no_core, or_low, part_at, room_in, sent_of, shown, waited}
-use Rattle.board_machine.specs.Bus.{DeviceRows}
-use Rattle.board_machine.specs.DeviceMoves.{controller, devices_moved, in_order, intc_moved, intcs_moved, line_change, line_driven, output_of, timer_moved, timers_moved, uart_moved, with_devices}
-use Rattle.board_machine.specs.World.{World, CoreAt, TickStep, TickMay, IsAct, IsFilling, IsIdle, Step, Steps, acts_of, devices_done, line_latched}
+use Rattle.board_machine.specs.Fabric.{Fabric, Feed, channel_at, entered, entered_some, first_in, got_of, host_moves, is_kept, link_from, link_to, move_by, moved, next_of, no_core, part_at, room_in, sent_of, shown, waited}
+use Rattle.board_machine.specs.World.{World, CoreAt, TickStep, TickMay, IsAct, IsFilling, IsIdle, Step, Steps}
 use Rattle.board_machine.proofs.Lists.{set_itself}
 use Rattle.net_law.proofs.Confluence.{Path}
 use Rattle.net_law.specs.Network.{Pipe, Plan, Process, Net, Actor, Core, Source, Sink, acts, channel_of, does, gave, ports_of, sink_acts, source_acts, to_come, took}
 use Rattle.net_law.proofs.Parts.{core_acts, sends, takes}
 use Rattle.net_law.specs.Law.{process_of}
 use Rattle.net_law.proofs.Confluence.{path_append}
-use Rattle.net_law.proofs.Flows.{flow_of, flows, putting, taking, channel_is, first_of_drop, touch_same, touch_other}
+use Rattle.net_law.proofs.Flows.{flow_of, flows, channel_is}
 use Rattle.net_law.proofs.Kahn.{IsOffered, is_process}
-use Rattle.net_law.proofs.Diamond.{does_is, map_some, Marked, marked_keeps, source_of, writer_of}
+use Rattle.net_law.proofs.Diamond.{does_is, Marked, marked_keeps}
 use Rattle.net_law.proofs.Calm.{devices_calm, same_calm}
-use Rattle.net_law.proofs.Carried.{Carries, Fed, feed_at, hosts_push, links_after_got, links_after_put, note_carries, shown_is, told_after_got, told_after_put}
-
+use Rattle.net_law.proofs.Carried.{Carries, feed_at, note_carries, shown_is}
 use Rattle.net_law.proofs.Entries.{deed_carries, first_is, first_shown, got_by_host, sent_by_host}
 
 -- the host

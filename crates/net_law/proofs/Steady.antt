@@ -28,7 +28,7 @@ use Rattle.isa_step.specs.Deeds.{Deed, Want, Goes, Homes, Gets, Puts, Reads, Wri
 use Rattle.isa_step.specs.Arithmetic.{divided, sums}
 use Rattle.isa_step.specs.Branches.{ahead, branches_if, holds}
 use Rattle.isa_step.specs.Special.{is_sleep}
-use Rattle.isa_step.specs.Loads.{address, is_aligned, keeps, loads, loads_at, loads_from, loads_past, lowered, no_data, read_from_bus, stores, stores_at, stores_past, unaligned, written_to_bus}
+use Rattle.isa_step.specs.Loads.{address, is_aligned, keeps, loads, loads_at, loads_from, loads_past, lowered, no_data, stores, stores_at, stores_past, unaligned}
 use Rattle.isa_step.specs.Links.{checked, gets_from, is_expected, is_nonblocking, is_raised, is_test, marked, passed, port_of, puts_to, receives}
 use Rattle.isa_step.specs.Wants.{deed_of, effect, given, wants, wants_instr, wants_kind, is_banned, is_end, belongs_into_slot, illegal, comes_home}
 
