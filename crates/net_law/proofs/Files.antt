@@ -22,8 +22,8 @@ use Rattle.board_machine.specs.World.{feeds_of, Inputs, World, Reached}
 use Rattle.board_machine.specs.Resting.{Still}
 use Rattle.board_machine.proofs.Lists.{slice_get_in}
 use Rattle.net_law.specs.Rounds.{rounds}
-use Rattle.net_law.specs.Network.{Net, acts, everyone, Pipe, Core, Sink, channel_of, history, plain}
-use Rattle.net_law.proofs.Parts.{plan_of, start}
+use Rattle.net_law.specs.Network.{Net, acts, everyone, Pipe, Core, Sink, channel_of, history, plain, start}
+use Rattle.net_law.proofs.Parts.{plan_of}
 use Rattle.net_law.specs.Boards.{IsNetwork}
 use Rattle.net_law.specs.Law.{Agree, IsPrefixOf, NetworkLaw, FollowsNetwork, RunsAgree, RunsKeepNetwork, acts_in, got_on, on_link, sent_on, taken_of}
 use Rattle.net_law.proofs.Diamond.{reader_of, sink_of}

@@ -24,8 +24,8 @@ use Rattle.board_machine.specs.Fabric.{Fabric, Feed, first_in, got_of, move_by, 
 use Rattle.board_machine.specs.World.{World, CoreAt, Inputs, Start, Reached, blobs_after, feed_of, feeds_of}
 use Rattle.board_machine.specs.Resting.{Still, idle_here}
 use Rattle.board_machine.proofs.Lists.{slice_get_in, some_of}
-use Rattle.net_law.specs.Network.{Pipe, Plan, Process, Net, took, gave, Actor, Core, Source, Sink, acts, channel_of, does, everyone, history, plain, ports_of, sink_acts, source_acts, to_come}
-use Rattle.net_law.proofs.Parts.{began, core_acts, plan_of, sends, sent_through, start, takes, unused}
+use Rattle.net_law.specs.Network.{Pipe, Plan, Process, Net, took, gave, Actor, Core, Source, Sink, acts, channel_of, does, everyone, history, plain, ports_of, sink_acts, source_acts, to_come, start}
+use Rattle.net_law.proofs.Parts.{began, core_acts, plan_of, sends, sent_through, takes, unused}
 use Rattle.net_law.specs.Boards.{IsNetwork}
 use Rattle.net_law.specs.Law.{IsPrefixOf, acts_in, got_on, process_of, sent_on}
 use Rattle.net_law.proofs.Confluence.{In, Path, run_leads, rest_is_rounds, rounds_good, rounds_lead}

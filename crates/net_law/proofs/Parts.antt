@@ -32,9 +32,6 @@ began v = record { view = v; acts = 0 }
 abbrev pub unused : LinkRow → Pipe
 unused r = record { depth = r.depth; sent = []; taken = 0 }
 
-abbrev pub start : List LinkRow → List View → Net
-start rows views = record { processes = map began views; pipes = map unused rows }
-
 abbrev pub plan_of : BoardFile → Inputs → Plan
 plan_of b inputs = record { rows = b.links; feeds = feeds_of b.links inputs.links }
 

@@ -70,36 +70,39 @@ ports_of rows links core = calm (λ port. first_in (channel_at links (link_to ro
 
 -- a core does the act that is due
 abbrev pub does : Plan → ℕ → Net → Process → Due → Option Net
-does b core n p (Does deed) = Some (record { processes = slice_set n.processes core (record { view = after p.view deed; acts = p.acts + 1 }); pipes = pipes_after b.rows core deed.action n.pipes })
-does b core n p _ = None
+does plan core net p (Does deed) = Some (record { processes = slice_set net.processes core (record { view = after p.view deed; acts = p.acts + 1 }); pipes = pipes_after plan.rows core deed.action net.pipes })
+does plan core net p _ = None
 
 -- an input file's end sends the file's next item where there is room
 abbrev pub to_come : Option Feed → Option Pipe → Option Item
 to_come feed pipe = option_and_then (λ (d : Feed). option_and_then (λ (p : Pipe). slice_get d.items (length p.sent)) pipe) feed
 
 abbrev pub source_acts : Plan → ℕ → Net → HostPart → Option Net
-source_acts b link n Sends = if room_in (slice_get (map channel_of n.pipes) link) then option_map (λ item. record n { pipes = touch (gave item) link n.pipes }) (to_come (slice_get b.feeds link) (slice_get n.pipes link)) else None
-source_acts b link n _ = None
+source_acts plan link net Sends = if room_in (slice_get (map channel_of net.pipes) link) then option_map (λ item. record net { pipes = touch (gave item) link net.pipes }) (to_come (slice_get plan.feeds link) (slice_get net.pipes link)) else None
+source_acts plan link net _ = None
 
 -- an output file's end takes the oldest item
 abbrev pub sink_acts : Plan → ℕ → Net → HostPart → Option Net
-sink_acts b link n Takes = option_map (λ item. record n { pipes = touch took link n.pipes }) (first_in (slice_get (map channel_of n.pipes) link))
-sink_acts b link n _ = None
+sink_acts plan link net Takes = option_map (λ item. record net { pipes = touch took link net.pipes }) (first_in (slice_get (map channel_of net.pipes) link))
+sink_acts plan link net _ = None
 
 -- one action, where it can be done
 abbrev pub acts : Plan → Actor → Net → Option Net
-acts b (Core core) n = option_and_then (λ (p : Process). does b core n p (due p.view (ports_of b.rows (map channel_of n.pipes) core))) (slice_get n.processes core)
-acts b (Source link) n = source_acts b link n (part_at (slice_get b.rows link))
-acts b (Sink link) n = sink_acts b link n (part_at (slice_get b.rows link))
+acts plan (Core core) net = option_and_then (λ (p : Process). does plan core net p (due p.view (ports_of plan.rows (map channel_of net.pipes) core))) (slice_get net.processes core)
+acts plan (Source link) net = source_acts plan link net (part_at (slice_get plan.rows link))
+acts plan (Sink link) net = sink_acts plan link net (part_at (slice_get plan.rows link))
 
 -- everyone, in the order of a round
 abbrev pub everyone : ℕ → ℕ → List Actor
 everyone cores links = map Core (range_with_len 0 cores) ++ map Source (range_with_len 0 links) ++ map Sink (range_with_len 0 links)
 
+abbrev pub start : List LinkRow → List View → Net
+start rows views = record { processes = map (λ v. record { view = v; acts = 0 }) views; pipes = map (λ (r : LinkRow). record { depth = r.depth; sent = []; taken = 0 }) rows }
+
 -- the reference network after so many rounds
 abbrev pub plain : BoardFile → List View → Inputs → ℕ → Net
-plain b views inputs r = rounds (acts (record { rows = b.links; feeds = feeds_of b.links inputs.links })) (everyone (length views) (length b.links)) (record { processes = map (λ v. record { view = v; acts = 0 }) views; pipes = map (λ (r : LinkRow). record { depth = r.depth; sent = []; taken = 0 }) b.links }) r
+plain b views inputs r = rounds (acts (record { rows = b.links; feeds = feeds_of b.links inputs.links })) (everyone (length views) (length b.links)) (start b.links views) r
 
 -- the history of a link
 abbrev pub history : Net → ℕ → List Item
-history n link = option_map_or (λ (p : Pipe). p.sent) (slice_get n.pipes link) []
+history net link = option_map_or (λ (p : Pipe). p.sent) (slice_get net.pipes link) []
