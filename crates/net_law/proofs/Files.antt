@@ -16,15 +16,18 @@ use Rattle.run_journal.specs.Files.{bytes_got, item_bytes, link_file}
 use Rattle.link_file.specs.File.{file_of}
 use Rattle.board_file.specs.declared.board.BoardFile.{BoardFile}
 use Rattle.board_file.specs.declared.board.LinkRow.{LinkRow}
+use Rattle.board_file.specs.declared.board.End.{End}
+use Rattle.board_file.specs.declared.board.End.TheVariants.{Port, File}
+use Rattle.host_io.specs.declared.names.FileName.{FileName}
 use Rattle.board_machine.specs.declared.events.HostPart.TheVariants.{Takes}
-use Rattle.board_machine.specs.Fabric.{first_in, got_of, link_to, move_by, part_at}
+use Rattle.board_machine.specs.Fabric.{first_in, got_of, link_to, move_by, part_at, part_by}
 use Rattle.board_machine.specs.World.{feeds_of, Inputs, World, Reached}
 use Rattle.board_machine.specs.Resting.{Still}
 use Rattle.board_machine.proofs.Lists.{slice_get_in}
 use Rattle.net_law.specs.Rounds.{rounds}
 use Rattle.net_law.specs.Network.{Net, acts, everyone, Pipe, Core, Sink, channel_of, history, plain, start}
 use Rattle.net_law.proofs.Parts.{plan_of}
-use Rattle.net_law.specs.Boards.{IsNetwork}
+use Rattle.net_law.specs.Boards.{IsNetwork, IsOutput}
 use Rattle.net_law.specs.Law.{Agree, IsPrefixOf, NetworkLaw, FollowsNetwork, RunsAgree, RunsKeepNetwork, acts_in, got_on, on_link, sent_on, taken_of}
 use Rattle.net_law.proofs.Diamond.{reader_of, sink_of}
 use Rattle.net_law.proofs.Carried.{link_is}
@@ -113,7 +116,7 @@ follows_network b views inputs w i r = record {
 same_plain : (b c : BoardFile) (views : List View) (inputs : Inputs) (r : ℕ) → c.links ≡ b.links → plain c views inputs r ≡ plain b views inputs r
 same_plain b c views inputs r e = ap (λ (rows : List LinkRow). rounds (acts (record { rows = rows; feeds = feeds_of rows inputs.links })) (everyone (length views) (length rows)) (start rows views) r) e
 
-part_same : (b c : BoardFile) (link : ℕ) → c.links ≡ b.links → part_at (slice_get b.links link) ≡ Takes → part_at (slice_get c.links link) ≡ Takes
+part_same : (b c : BoardFile) (link : ℕ) → c.links ≡ b.links → IsOutput b link → IsOutput c link
 part_same b c link e part = ap (λ (rows : List LinkRow). part_at (slice_get rows link)) e ∙ part
 
 -- two beginnings of one list
@@ -128,21 +131,24 @@ comparable (x ∷ xs) (y ∷ ys) r t e =
       | inr p ↦ inr (p.0, ap (λ zs. y ∷ zs) p.1 ∙ ap (λ z. z ∷ xs) (sym h))
     ]
 
--- two runs, of which one has more rounds left for the other
+-- two runs, each with as many more rounds as the other had
 pub runs_agree_at : (b c : BoardFile) (views : List View) (inputs : Inputs) (v w : World) → c.links ≡ b.links → IsNetwork b views → IsNetwork c views → Reached b views inputs v → Reached c views inputs w → Agree b v w
 runs_agree_at b c views inputs v w e i j p q =
     let f = follows_network b views inputs v i p in
     let g = follows_network c views inputs w j q in
     let k : acts_in w + acts_in v ≡ acts_in v + acts_in w = omega arith in
     let n : plain b views inputs (acts_in w + acts_in v) ≡ plain c views inputs (acts_in v + acts_in w) = ap (plain b views inputs) k ∙ sym (same_plain b c views inputs (acts_in v + acts_in w) e) in
+    let file = λ (link : ℕ) (n : Net). file_of (history n link) in
+    let all = plain b views inputs (acts_in w + acts_in v) in
+    let one = λ (link : ℕ) (part : IsOutput b link).
+    prefix_trans (link_file link v.fabric.journal) (file link (plain b views inputs (acts_in v))) (file link all) (f.file link part) (file_prefix _ _ (later_rounds b views inputs i (acts_in v) (acts_in w) link)) in
+    let later = λ (link : ℕ) (part : IsOutput b link).
+    prefix_trans (link_file link w.fabric.journal) (file link (plain c views inputs (acts_in w))) (file link (plain c views inputs (acts_in v + acts_in w))) (g.file link (part_same b c link e part)) (file_prefix _ _ (later_rounds c views inputs j (acts_in w) (acts_in v) link)) in
+    let other = λ (link : ℕ) (part : IsOutput b link). subst (λ n. IsPrefixOf (link_file link w.fabric.journal) (file link n)) (sym n) (later link part) in
     record {
-      files = λ link part.
-          let ahead = file_of (history (plain b views inputs (acts_in w + acts_in v)) link) in
-          let behind = file_of (history (plain c views inputs (acts_in v + acts_in w)) link) in
-          let x = prefix_trans (link_file link v.fabric.journal) (file_of (history (plain b views inputs (acts_in v)) link)) ahead (f.file link part) (file_prefix _ _ (later_rounds b views inputs i (acts_in v) (acts_in w) link)) in
-          let y = prefix_trans (link_file link w.fabric.journal) (file_of (history (plain c views inputs (acts_in w)) link)) behind (g.file link (part_same b c link e part)) (file_prefix _ _ (later_rounds c views inputs j (acts_in w) (acts_in v) link)) in
-          comparable (link_file link v.fabric.journal) (link_file link w.fabric.journal) x.0 y.0 (x.1 ∙ ap (λ (n : Net). file_of (history n link)) n ∙ sym y.1);
-      files_at_rest = λ s t link part. f.file_at_rest s (acts_in w) link part ∙ ap (λ (n : Net). file_of (history n link)) n ∙ sym (g.file_at_rest t (acts_in v) link (part_same b c link e part));
+      files = λ link part. let x = one link part in let y = other link part in comparable (link_file link v.fabric.journal) (link_file link w.fabric.journal) x.0 y.0 (x.1 ∙ sym y.1);
+      files_behind_rest = λ s link part. subst (IsPrefixOf (link_file link w.fabric.journal)) (sym (f.file_at_rest s (acts_in w) link part)) (other link part);
+      files_at_rest = λ s t link part. f.file_at_rest s (acts_in w) link part ∙ ap (file link) n ∙ sym (g.file_at_rest t (acts_in v) link (part_same b c link e part));
       cores_at_rest = λ s t. f.cores_at_rest s (acts_in w) ∙ ap (λ (n : Net). n.processes) n ∙ sym (g.cores_at_rest t (acts_in v));
     }
 
@@ -154,3 +160,12 @@ runs_agree = record { agree = runs_agree_at }
 
 pub runs_keep : RunsKeepNetwork
 runs_keep = record { keeps = λ old new k b views inputs i r. follows_network b views inputs new i (k b views inputs r).reached }
+
+-- a link to a file is an output where no link has files at both ends
+
+out_by : (from to : End) (name : FileName) → ((other : FileName) → from ≡ File other → ⊥) → to ≡ File name → part_by from to ≡ Takes
+out_by (Port core port) to name ne e = ap (part_by (Port core port)) e
+out_by (File other) to name ne e = absurd (ne other refl)
+
+pub leads_out : (b : BoardFile) (link : ℕ) (r : LinkRow) (name : FileName) → slice_get b.links link ≡ Some r → ((other : FileName) → r.from ≡ File other → ⊥) → r.to ≡ File name → IsOutput b link
+leads_out b link r name there ne e = ap part_at there ∙ out_by r.from r.to name ne e

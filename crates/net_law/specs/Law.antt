@@ -1,5 +1,5 @@
 -- What every run of a network board has in common with the reference network, and so with every other run of it.
-use Rattle.std.specs.Prelude.{◌≡◌, ◌⊎◌, ℕ, ◌+◌, ◌<◌, ◌==◌, Bool, true, false, if◌then◌else◌, List, ◌++◌, length, map, filter, Option, Some, None, slice_get}
+use Rattle.std.specs.Prelude.{◌≡◌, ◌⊎◌, ℕ, ◌+◌, ◌<◌, ◌==◌, Bool, true, false, if◌then◌else◌, List, ◌++◌, length, map, filter, Option, Some, None}
 use Rattle.std.specs.Option.{option_map}
 use Rattle.std.specs.List.{filter_map, sum_by}
 use Rattle.axi_link.specs.declared.item.Item.{Item}
@@ -11,12 +11,11 @@ use Rattle.run_journal.specs.Files.{link_file}
 use Rattle.link_file.specs.File.{file_of}
 use Rattle.board_file.specs.declared.board.BoardFile.{BoardFile}
 use Rattle.board_file.specs.declared.board.LinkRow.{LinkRow}
-use Rattle.board_machine.specs.declared.events.HostPart.TheVariants.{Takes}
-use Rattle.board_machine.specs.Fabric.{link_from, link_to, part_at}
+use Rattle.board_machine.specs.Fabric.{link_from, link_to}
 use Rattle.board_machine.specs.World.{CoreAt, Inputs, Reached, World}
 use Rattle.board_machine.specs.Resting.{Still}
 use Rattle.board_machine.specs.Runs.{KeepsRuns}
-use Rattle.net_law.specs.Boards.{IsNetwork}
+use Rattle.net_law.specs.Boards.{IsNetwork, IsOutput}
 use Rattle.net_law.specs.Network.{Process, history, plain}
 
 -- the journal's history of a link
@@ -58,10 +57,6 @@ acts_in w = sum_by (λ (s : CoreAt). s.acts) w.cores + length (filter (λ (e : E
 abbrev pub IsPrefixOf : {X : Type 0} → List X → List X → Type 0
 IsPrefixOf {X} xs ys = (rest : List X) × (xs ++ rest ≡ ys)
 
--- a link to a file
-abbrev pub IsOutput : BoardFile → ℕ → Type 0
-IsOutput b link = part_at (slice_get b.links link) ≡ Takes
-
 abbrev pub process_of : CoreAt → Process
 process_of s = record { view = s.view; acts = s.acts }
 
@@ -81,9 +76,11 @@ pub record NetworkLaw : Type 0 where
 
 -- the consequence
 
--- of each link's two files one is a prefix of the other, and where both rest the files are equal, and so are the cores
+-- of each link's two files one is a prefix of the other, and that of a run at rest is the longer one; where both rest the
+-- files are equal, and so are the cores
 pub record Agree (b : BoardFile) (v w : World) : Type 0 where
   pub files : (link : ℕ) → IsOutput b link → IsPrefixOf (link_file link v.fabric.journal) (link_file link w.fabric.journal) ⊎ IsPrefixOf (link_file link w.fabric.journal) (link_file link v.fabric.journal)
+  pub files_behind_rest : Still v → (link : ℕ) → IsOutput b link → IsPrefixOf (link_file link w.fabric.journal) (link_file link v.fabric.journal)
   pub files_at_rest : Still v → Still w → (link : ℕ) → IsOutput b link → link_file link v.fabric.journal ≡ link_file link w.fabric.journal
   pub cores_at_rest : Still v → Still w → map process_of v.cores ≡ map process_of w.cores
 
