@@ -1,4 +1,4 @@
--- The files of the links.
+-- The files of the links, and the laws.
 use Rattle.std.proofs.Common.{◌≡◌, ℕ, ◌+◌, ◌<◌, List, [], ◌∷◌, ◌++◌, length, take, drop, Option, Some, None, refl, ap, sym, ◌∙◌, subst, inl, inr, ◌⊎◌, arith, slice_get, Bool, true, false, cond, ◌==◌}
 use Rattle.std.specs.Option.{option_map}
 use Rattle.std.specs.List.{cons_option, flat_map}
@@ -20,15 +20,17 @@ use Rattle.board_file.specs.declared.board.End.{End}
 use Rattle.board_file.specs.declared.board.End.TheVariants.{Port, File}
 use Rattle.host_io.specs.declared.names.FileName.{FileName}
 use Rattle.board_machine.specs.declared.events.HostPart.TheVariants.{Takes}
+use Rattle.board_machine.specs.declared.events.Event.{Event}
 use Rattle.board_machine.specs.Fabric.{first_in, got_of, link_to, move_by, part_at, part_by}
-use Rattle.board_machine.specs.World.{feeds_of, Inputs, World, Reached}
+use Rattle.board_machine.specs.World.{Inputs, Reached, Steps, World, feeds_of}
+use Rattle.board_machine.proofs.Keeping.{keeps_runs}
 use Rattle.board_machine.specs.Resting.{Still}
 use Rattle.board_machine.proofs.Lists.{slice_get_in}
 use Rattle.net_law.specs.Rounds.{rounds}
 use Rattle.net_law.specs.Network.{Net, acts, everyone, Pipe, Core, Sink, channel_of, history, plain, start}
 use Rattle.net_law.proofs.Parts.{plan_of}
 use Rattle.net_law.specs.Boards.{IsNetwork, IsOutput}
-use Rattle.net_law.specs.Law.{Agree, IsPrefixOf, NetworkLaw, FollowsNetwork, RunsAgree, RunsKeepNetwork, acts_in, got_on, on_link, sent_on, taken_of}
+use Rattle.net_law.specs.Law.{Agree, KeepsNetwork, IsPrefixOf, NetworkLaw, FollowsNetwork, RunsAgree, RunsKeepNetwork, acts_in, got_on, on_link, sent_on, taken_of}
 use Rattle.net_law.proofs.Diamond.{reader_of, sink_of}
 use Rattle.net_law.proofs.Carried.{link_is}
 use Rattle.net_law.proofs.Law.{good_along, good_start, later_rounds, prefix_law, prefix_trans, reached_run, rest_law}
@@ -160,6 +162,10 @@ runs_agree = record { agree = runs_agree_at }
 
 pub runs_keep : RunsKeepNetwork
 runs_keep = record { keeps = λ old new k b views inputs i r. follows_network b views inputs new i (k b views inputs r).reached }
+
+-- the form for a call that does these events
+pub keeps_network : (old new : World) (es : List Event) → Steps old es new → KeepsNetwork old new
+keeps_network old new es h b views inputs i r = follows_network b views inputs new i (keeps_runs old new es h b views inputs r).reached
 
 -- a link to a file is an output where no link has files at both ends
 
