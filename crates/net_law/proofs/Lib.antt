@@ -1,0 +1,13 @@
+pub mod Reading
+pub mod Confluence
+pub mod Parts
+pub mod Steady
+pub mod Kahn
+pub mod Flows
+pub mod Diamond
+pub mod Calm
+pub mod Carried
+pub mod Entries
+pub mod Simulation
+pub mod Law
+pub mod Files

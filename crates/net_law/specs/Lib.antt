@@ -1,0 +1,4 @@
+pub mod Rounds
+pub mod Network
+pub mod Boards
+pub mod Law
