@@ -15,6 +15,7 @@ pub mod PaceTicks
 pub mod PaceRuns
 pub mod Orders
 pub mod PaceCycles
+pub mod Joins
 pub mod LinkTests
 pub mod TakeTests
 pub mod ProgressTests

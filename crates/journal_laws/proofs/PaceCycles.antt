@@ -313,6 +313,10 @@ run_good b views inputs count w r =
     let e : r.first.fabric.cycle + count ≡ count = omega (arith, r.began.cycle) in
     subst (λ (s : Schedule). GoodAt (ticking s.turn s.clocks) b.links views count w) r.began.has_schedule (subst (λ n. GoodAt (ticking s.turn s.clocks) b.links views n w) e all)
 
+-- the cycle number is that of the cycles that ran
+pub run_cycle : (b : BoardFile) (views : List View) (inputs : Inputs) (count : ℕ) (w : World) → RanCycles b views inputs count w → w.fabric.cycle ≡ count
+run_cycle b views inputs count w r = (run_good b views inputs count w r).cycle_is
+
 no_more : (n : ℕ) → n + 0 ≡ n
 no_more n = omega arith
 

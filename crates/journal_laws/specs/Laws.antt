@@ -37,3 +37,8 @@ pub record KeepsPace (b : BoardFile) (views : List View) (cycles : ℕ) (w : Wor
 pub record ProgressBoundHolds : Type 0 where
   pub law : (b : BoardFile) (views : List View) (inputs : Inputs) (count : ℕ) (w : World) → RanCycles b views inputs count w → ProgressBound (order_of b) b.links views w.fabric.journal
   pub at_end : (b : BoardFile) (views : List View) (inputs : Inputs) (count : ℕ) (w : World) → RanCycles b views inputs count w → KeepsPace b views count w
+
+-- more cycles after a run by cycles are one such run, and each such run is one of those that the other laws speak of
+pub record RunsJoin : Type 0 where
+  pub join : (b : BoardFile) (views : List View) (inputs : Inputs) (count more : ℕ) (old new : World) → RanCycles b views inputs count old → Cycles old more new → RanCycles b views inputs (count + more) new
+  pub reached : (b : BoardFile) (views : List View) (inputs : Inputs) (count : ℕ) (w : World) → RanCycles b views inputs count w → Reached b views inputs w

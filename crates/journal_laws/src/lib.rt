@@ -4,7 +4,7 @@
 //! it by hand. There is no code here: each function is a law of the board machine, whose statement is its clause.
 #![tactic(auto)]
 
-ghost use Rattle.journal_laws.specs.Laws.{LinkLawHolds, ProgressBoundHolds, TakeLawHolds};
+ghost use Rattle.journal_laws.specs.Laws.{LinkLawHolds, ProgressBoundHolds, RunsJoin, TakeLawHolds};
 ghost use Rattle.journal_laws.specs.LinkTests.{LinkLawIsTested};
 ghost use Rattle.journal_laws.specs.ProgressTests.{ProgressBoundIsTested};
 ghost use Rattle.journal_laws.specs.TakeTests.{TakeLawIsTested};
@@ -25,6 +25,12 @@ pub fn take_law_holds()
 #[tactic(auto, using(crate::proofs::PaceCycles::progress_bound_holds))]
 pub fn progress_bound_holds()
     ensures { ProgressBoundHolds }
+{}
+
+/// Runs by cycles one after the other are one run by cycles, and a run of the other laws.
+#[tactic(auto, using(crate::proofs::Joins::runs_join))]
+pub fn runs_join()
+    ensures { RunsJoin }
 {}
 
 /// The link law keeps small journals that are right, and refuses small ones that are not.
