@@ -1,0 +1,32 @@
+-- The laws of journals, as a board has them and as a call keeps them.
+use Rattle.std.specs.Prelude.{◌≡◌, ℕ, ◌+◌, List, Some, slice_get}
+use Rattle.isa_step.specs.Deeds.{View}
+use Rattle.board_file.specs.declared.board.BoardFile.{BoardFile}
+use Rattle.board_machine.specs.World.{CoreAt, Inputs, Reached, World}
+use Rattle.journal_laws.specs.LinkLaw.{LinkLaw}
+use Rattle.journal_laws.specs.TakeLaw.{TakeLaw}
+use Rattle.journal_laws.specs.Progress.{ProgressBound}
+use Rattle.journal_laws.specs.Laws.{KeepsPace, RanCycles, order_of}
+
+-- the journal of a board that began with these views has the link law, and each core has the take law
+pub record HasLaws (b : BoardFile) (views : List View) (w : World) : Type 0 where
+  pub links : LinkLaw b.links w.fabric.journal
+  pub takes : (core : ℕ) (s : CoreAt) (first : View) → slice_get w.cores core ≡ Some s → slice_get views core ≡ Some first
+      → TakeLaw b.events first core s.acts w.fabric.journal
+
+-- a board that ran so many cycles: its journal has the progress bound, and so has each core that goes on
+pub record HasProgress (b : BoardFile) (views : List View) (inputs : Inputs) (cycles : ℕ) (w : World) : Type 0 where
+  pub ran : RanCycles b views inputs cycles w
+  pub bound : ProgressBound (order_of b) b.links views w.fabric.journal
+  pub pace : KeepsPace b views cycles w
+
+-- whatever the board, the views and the inputs were: where the board stood for the end of a list of steps from its
+-- beginning, its journal has the laws now
+abbrev pub KeepsLaws : World → World → Type 0
+KeepsLaws old new = (b : BoardFile) (views : List View) (inputs : Inputs) → Reached b views inputs old → HasLaws b views new
+
+-- where it had run by cycles it has now run by more of them, and its journal has the progress bound
+abbrev pub KeepsProgress : World → World → Type 0
+KeepsProgress old new =
+    (b : BoardFile) (views : List View) (inputs : Inputs) (cycles : ℕ) → RanCycles b views inputs cycles old
+    → (more : ℕ) × HasProgress b views inputs (cycles + more) new
