@@ -14,7 +14,9 @@ use Rattle.board_machine.specs.declared.events.RunEnd.{RunEnd}
 use Rattle.board_machine.specs.declared.events.Event.{Event}
 use Rattle.board_machine.specs.Cycles.{RunsTo}
 use Rattle.board_machine.specs.World.{CoreAt, Inputs, Reached, Start, Steps, World}
-use Rattle.board_machine.specs.Runs.{KeepsRuns}
+use Rattle.board_machine.specs.Runs.{IsRunFrom, KeepsRuns}
+use Rattle.board_run.proofs.LawsKept.{has_laws, has_progress}
+use Rattle.net_law.proofs.Files.{follows_network}
 use Rattle.board_machine.proofs.Lasting.{step_kept}
 use Rattle.host_io.specs.Outside.{CountsWriteFault}
 use Rattle.host_io.specs.declared.faults.StoreFault.TheVariants as store
@@ -68,13 +70,18 @@ prints_out journal board last how shelf shelf' out out' status w (stopped fault 
 -- a run from a board's beginning tells each core's view
 pub run_of : (b : BoardFile) (views : List View) (inputs : Inputs) (entries limit : ℕ) (first last : World) (how : RunEnd) → Start b views inputs first → first.fabric.spare ≡ entries
     → RunsTo limit first last how → KeepsRuns first last → IsRunOf b views inputs entries limit last how
-run_of b views inputs entries limit first last how began room ran keeps = record {
-  first = first;
-  began = began;
-  room = room;
-  ran = ran;
-  told = (keeps b views inputs (record { first = first; events = []; began = began; ran = refl })).told;
-}
+run_of b views inputs entries limit first last how began room ran keeps =
+    let is_run : IsRunFrom b views inputs last = keeps b views inputs (record { first = first; events = []; began = began; ran = refl }) in
+    record {
+      first = first;
+      began = began;
+      room = room;
+      ran = ran;
+      told = is_run.told;
+      laws = has_laws b views inputs last is_run.reached;
+      progress = (ran.count, has_progress b views inputs ran.count last (record { first = first; began = began; ran = ran.cycles }));
+      network = λ is. follows_network b views inputs last is is_run.reached;
+    }
 
 -- a run keeps the number of cores
 steps_cores : (w v : World) (es : List Event) → Steps w es v → length v.cores ≡ length w.cores
