@@ -1,6 +1,5 @@
-use Rattle.std.proofs.Common.{arith, subst, sym, ◌∙◌, ◌++◌, ap, ℕ, List, refl}
+use Rattle.std.proofs.Common.{subst, sym, ◌∙◌, ◌++◌, ap, ℕ, List, refl}
 use Rattle.core_regs.specs.State.{written}
-use Rattle.timing_law.specs.Table.{depth_of}
 use Rattle.core_iface.specs.Flights.{begun}
 use Rattle.core_iface.proofs.Keeping.{at_pc}
 use Rattle.pipe_latch.specs.Clocks.{Clocked}
