@@ -4,31 +4,26 @@ use Rattle.std.specs.Prelude.{is_some}
 use Rattle.core_regs.specs.declared.registers.Arch.{Arch}
 use Rattle.core_regs.specs.State.{bare, reg, write_of, written}
 use Rattle.mb_decode.specs.declared.instruction.Instr.{Instr}
-use Rattle.op_table.specs.Table.{kind_of}
-use Rattle.isa_step.specs.declared.acts.Act.{Act}
 use Rattle.isa_step.specs.declared.acts.Act.TheVariants as acts
 use Rattle.isa_step.specs.declared.acts.Done.{Done}
 use Rattle.isa_step.specs.declared.acts.Here.{Here}
 use Rattle.isa_step.specs.declared.acts.Store.{Store}
-use Rattle.isa_step.specs.Shown.{Shown}
-use Rattle.isa_step.specs.Deeds.{Deed, Due, Does, Waits, Sleeps, Ends, Stops, View, after, after_store}
+use Rattle.isa_step.specs.Deeds.{Deed, Due, Does, Waits, Sleeps, Ends, Stops, View, after}
 use Rattle.isa_step.specs.Due.{due_with, here_at, met}
 use Rattle.isa_step.specs.Wants.{operands_of}
 use Rattle.prepared_act.specs.declared.flow.Flow.{Flow}
 use Rattle.prepared_act.specs.declared.prepared.Prepared.{Prepared}
 use Rattle.prepared_act.specs.Prepared.{result_register}
-use Rattle.prepared_act.specs.Retiring.{IsRetired, Retires, RetiresDue, flow_by, flow_of, is_offered, view_of}
+use Rattle.prepared_act.specs.Retiring.{IsRetired, Retires, RetiresDue, flow_by, flow_of, view_of}
 use Rattle.prepared_act.proofs.Results.{inner_writes}
-use Rattle.timing_law.specs.declared.pipe.Jump.{Jump}
 use Rattle.timing_law.specs.declared.pipe.Jump.TheVariants.{On, Taken, Struck}
 use Rattle.timing_law.specs.Past.{retired}
-use Rattle.timing_law.specs.Passing.{instr_of, is_ahead, jump_of, past_after, strikes}
-use Rattle.timing_law.specs.Table.{depth_of}
+use Rattle.timing_law.specs.Passing.{instr_of, past_after, strikes}
 use Rattle.core_iface.specs.declared.Flight.{Flight}
-use Rattle.core_iface.specs.Cores.{CoreState, is_early}
-use Rattle.core_iface.specs.Flights.{begun, file_after, file_aged, flights_after, flights_aged}
+use Rattle.core_iface.specs.Cores.{CoreState}
+use Rattle.core_iface.specs.Flights.{begun, file_aged, flights_aged}
 use Rattle.core_iface.specs.Ticks as ticks
-use Rattle.core_iface.specs.Words.{IsAt, IsKept, goes_on}
+use Rattle.core_iface.specs.Words.{IsAt, goes_on}
 use Rattle.core_iface.proofs.Doing.{fills_alone}
 use Rattle.pipe_latch.specs.Clocks.{Clocked, IsSet, filled, holds, jump_by, left_later, set, went}
 use Rattle.pipe_latch.specs.Staged.{staged}

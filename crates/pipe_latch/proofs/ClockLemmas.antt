@@ -1,5 +1,5 @@
 -- The counters of the stages tell exactly when an instruction is due.
-use Rattle.std.proofs.Common.{ℕ, ◌≡◌, ◌<◌, ◌≤◌, ◌+◌, ◌-◌, ◌==◌, ◌||◌, nat_lt, max, Bool, true, false, List, Option, Some, None, refl, sym, ap, subst, ◌∙◌, arith, length, slice_index, slice_set, if◌then◌else◌, replicate}
+use Rattle.std.proofs.Common.{ℕ, ◌≡◌, ◌<◌, ◌≤◌, ◌+◌, ◌-◌, ◌==◌, ◌||◌, nat_lt, Bool, true, false, List, Option, Some, None, refl, sym, ap, subst, ◌∙◌, arith, length, slice_index, slice_set, if◌then◌else◌, replicate}
 use Rattle.std.proofs.lemmas.List.{length-set, get_or-set_same, get_or-set_other, get_or_past, get_or-replicate, length-replicate}
 use Rattle.mb_decode.specs.declared.instruction.Instr.{Instr}
 use Rattle.mb_decode.specs.Registers.{reads_a, reads_b, reads_d}
@@ -16,7 +16,7 @@ use Rattle.timing_law.specs.declared.pipe.Pipe.TheVariants.{Plain, Three, Five, 
 use Rattle.timing_law.specs.declared.pipe.Jump.{Jump}
 use Rattle.timing_law.specs.declared.pipe.Jump.TheVariants.{On, Taken, Struck}
 use Rattle.timing_law.specs.declared.past.Past.{Past}
-use Rattle.timing_law.specs.Table.{branch_of, divide_extra, extra_for, extra_of, first_of, is_divide, is_memory, late_of, memory_hold, ready_of, redirected, turn_of}
+use Rattle.timing_law.specs.Table.{branch_of, extra_for, extra_of, first_of, is_memory, late_of, memory_hold, ready_of, redirected, turn_of}
 use Rattle.timing_law.specs.Past.{begins_at, due_at, fresh, greatest_read, marked, operands_at, retired, used}
 use Rattle.timing_law.specs.Passing.{instr_of, jump_of, passed_by, past_after, retired_here}
 use Rattle.op_table.specs.declared.kinds.Kind.{Kind}

@@ -1,6 +1,5 @@
 -- How deep a pipeline with stages is.
-use Rattle.std.proofs.Common.{ℕ, ◌≡◌, ◌≤◌, ◌==◌, Bool, true, false, if◌then◌else◌, refl, sym, subst, arith, List}
-use Rattle.timing_law.specs.declared.pipe.Pipe.{Pipe}
+use Rattle.std.proofs.Common.{ℕ, ◌≡◌, ◌≤◌, ◌==◌, Bool, true, false, if◌then◌else◌, sym, subst, arith, List}
 use Rattle.timing_law.specs.declared.pipe.Pipe.TheVariants.{Three, Five, Eight}
 use Rattle.timing_law.specs.Table.{depth_of}
 use Rattle.pipe_latch.specs.Latches.{InStages}

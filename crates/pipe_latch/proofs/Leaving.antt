@@ -1,12 +1,12 @@
 -- What an act that is done at once leaves of registers and memory.
-use Rattle.std.proofs.Common.{ℕ, ◌≡◌, ◌<◌, Bool, true, false, List, Option, Some, None, refl, sym, ap, ◌∙◌, subst, length}
+use Rattle.std.proofs.Common.{ℕ, ◌≡◌, ◌<◌, false, List, Option, Some, None, refl, sym, ap, ◌∙◌, subst, length}
 use Rattle.core_regs.specs.declared.registers.Arch.{Arch}
 use Rattle.core_regs.specs.State.{bare, reg, write_of, written}
 use Rattle.mb_decode.specs.declared.instruction.Instr.{Instr}
 use Rattle.isa_step.specs.declared.acts.Done.{Done}
 use Rattle.isa_step.specs.declared.acts.Here.{Here}
 use Rattle.isa_step.specs.Shown.{Shown}
-use Rattle.isa_step.specs.Deeds.{Deed, Due, Does, Waits, Sleeps, Ends, Stops, View, after, after_store}
+use Rattle.isa_step.specs.Deeds.{Deed, Due, Does, Waits, Sleeps, Ends, Stops, View, after_store}
 use Rattle.isa_step.specs.Due.{due_with, here_at, met}
 use Rattle.isa_step.specs.Wants.{operands_of}
 use Rattle.prepared_act.specs.declared.flow.Flow.{Flow}

@@ -1,5 +1,5 @@
 -- The ticks of a core with results in flight.
-use Rattle.std.proofs.Common.{ℕ, ◌≡◌, ◌<◌, ◌+◌, ◌-◌, ◌==◌, ◌&&◌, ◌++◌, nat_lt, Bool, true, false, List, Option, Some, None, refl, sym, ap, ◌∙◌, subst, arith}
+use Rattle.std.proofs.Common.{ℕ, ◌≡◌, ◌<◌, ◌+◌, ◌-◌, ◌==◌, ◌&&◌, ◌++◌, Bool, true, false, List, Option, Some, None, refl, sym, ap, ◌∙◌, subst, arith}
 use Rattle.std.specs.Prelude.{is_none, is_some, if◌then◌else◌}
 use Rattle.core_regs.specs.declared.registers.Arch.{Arch}
 use Rattle.core_regs.specs.State.{bare, written}
@@ -19,12 +19,11 @@ use Rattle.isa_step.specs.Performing.{Performed, PerformedBy}
 use Rattle.timing_law.specs.declared.pipe.Jump.{Jump}
 use Rattle.timing_law.specs.declared.past.Past.{Past}
 use Rattle.timing_law.specs.Table.{depth_of}
-use Rattle.timing_law.specs.Past.{due_at}
 use Rattle.timing_law.specs.Passing.{instr_of, jump_of, passed_by, past_after, retired_here}
 use Rattle.core_iface.specs.declared.Flight.{Flight}
 use Rattle.core_iface.specs.declared.Tick.{Tick}
 use Rattle.core_iface.specs.declared.Tick.TheVariants as tick
-use Rattle.core_iface.specs.Flights.{applied, begun, flights_aged, file_aged}
+use Rattle.core_iface.specs.Flights.{begun, flights_aged, file_aged}
 use Rattle.core_iface.specs.Cores.{CoreState, is_early, is_held}
 use Rattle.core_iface.specs.Ticks as ticks
 use Rattle.core_iface.proofs.Pending.{pending}

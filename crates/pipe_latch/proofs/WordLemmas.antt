@@ -1,5 +1,5 @@
 -- Words that were fetched are words of memory.
-use Rattle.std.proofs.Common.{ℕ, zero, suc, ◌≡◌, ◌<◌, ◌≤◌, ◌+◌, ◌-◌, ◌%◌, ◌==◌, ◌&&◌, ◌||◌, nat_le, nat_lt, Bool, true, false, List, [], ◌∷◌, ◌++◌, Option, Some, None, refl, sym, ap, subst, ◌∙◌, arith, take, drop, slice_get, slice_set, slice_range, ◌⊎◌, inl, inr}
+use Rattle.std.proofs.Common.{ℕ, zero, suc, ◌≡◌, ◌<◌, ◌≤◌, ◌+◌, ◌-◌, ◌%◌, ◌&&◌, ◌||◌, nat_le, nat_lt, Bool, true, false, List, [], ◌∷◌, Option, Some, None, refl, sym, ap, subst, ◌∙◌, arith, take, drop, slice_get, slice_set, slice_range, ◌⊎◌, inl, inr}
 use Rattle.std.specs.List.{list_any}
 use Rattle.core_regs.specs.declared.causes.Order.{Order}
 use Rattle.core_regs.specs.declared.causes.Size.{Size}

@@ -3,6 +3,7 @@
 ghost use Rattle.std.specs.Prelude.{◌≡◌, ℕ, ◌<◌, ◌≤◌, ◌&&◌, ◌^◌, IfSome, is_some, length, None, true, false};
 ghost use Rattle.core_regs.specs.State.{bare, reg, write_of};
 ghost use Rattle.isa_step.specs.Due.{here_at};
+ghost use Rattle.isa_step.specs.Wants.{is_link};
 ghost use Rattle.timing_law.specs.Passing.{instr_of};
 ghost use Rattle.timing_law.specs.Table.{depth_of};
 ghost use Rattle.core_iface.specs.Cores.{made};
@@ -19,7 +20,8 @@ use crate::{Clock, Flights, Queue};
 use byte_mem::Memory;
 use core_iface::{Core, Flight, Tick, Words, is_pending, rest_of};
 use core_regs::{Arch, Write};
-use isa_step::{Here, Idle, Outcome, Ports, Sees, act, idle_at};
+use isa_step::{END_WORD, Here, Idle, Outcome, Ports, Sees, act, idle_at};
+use op_table::{Kind, kind_of};
 use prepared_act::{Prepared, act_at_once, flow_of};
 use timing_law::{Past, Pipe, instr_of};
 
@@ -35,8 +37,10 @@ pub struct StagedCore<const STAGES: u8> {
     queue: Queue,
     clock: Clock,
     words: Words,
-    /// Whether the core runs, is awake, and keeps the word at pc, whose act is inner.
+    /// Whether the core runs, is awake, and stands at a word at which an act is due whatever the ports show.
     at_once: bool,
+    /// Whether that word is kept, and its act inner.
+    is_kept: bool,
     ghost stages: { HasStages STAGES },
     ghost pipe: { clock.past.pipe ≡ pipe_with STAGES },
     ghost flying: { InStages (depth_of (pipe_with STAGES)) 0 flights.stages } by { stages_prop (depth_of (pipe_with STAGES)) 0 flights.stages },
@@ -45,7 +49,7 @@ pub struct StagedCore<const STAGES: u8> {
     ghost set: { IsSet clock (instr_of (here_at (bare arch) memory)) (is_some arch.slot) } by { Prim.hlevel props },
     ghost runs: { at_once ≡ true → arch.stopped ≡ None },
     ghost awake: { at_once ≡ true → arch.asleep ≡ false },
-    ghost kept: { at_once ≡ true → IsKept words.kept arch memory } by { Prim.hlevel props },
+    ghost kept: { is_kept ≡ true → IsKept words.kept arch memory } by { Prim.hlevel props },
     ghost goes: { at_once ≡ true → goes_on (here_at (bare arch) memory) ≡ true },
 }
 
@@ -98,35 +102,66 @@ fn is_up(a: &Arch) -> bool
     !a.asleep && a.stopped.is_none()
 }
 
-/// Meets a word at pc that is not inner.
+fn is_link(kind: Kind) -> bool
+    ensures { result ≡ is_link kind }
+{
+    matches!(kind, Kind::Get { .. } | Kind::Put { .. })
+}
+
+/// Whether an act is due at a word whatever the ports show: it is neither the end nor an access to a link.
+fn goes_on(here: &Option<Here>) -> bool
+    ensures { result ≡ goes_on here.now }
+{
+    match here {
+        Some(
+            Here {
+                word,
+                instr: Some(i),
+            },
+        ) => *word != END_WORD && !is_link(kind_of(i.op)),
+        Some(Here { word, instr: None }) => *word != END_WORD,
+        None => true,
+    }
+}
+
+/// Meets a word at pc that is not inner. Whether an act is due there whatever the ports show.
 #[cold]
 #[inline(never)]
-fn meet_other(words: &Words, clock: &mut Clock, a: &Arch, m: &Memory)
+fn meet_other(words: &Words, clock: &mut Clock, a: &Arch, m: &Memory) -> bool
     requires { clock.old.slack ≡ 63 }
-    ensures { clock.new ≡ set (instr_of (here_at (bare a.now) m.now)) (is_some a.now.slot) clock.old }
+    ensures clock { clock.new ≡ set (instr_of (here_at (bare a.now) m.now)) (is_some a.now.slot) clock.old }
+    ensures goes { result ≡ goes_on (here_at (bare a.now) m.now) }
 {
     let here = words.here_at(a, m);
     clock.begin(instr_of(&here), a.slot.is_some());
+    goes_on(&here)
 }
 
-/// Meets the word at pc: the stages begin to hold it back. Whether its act can be done at once.
+/// Meets the word at pc: the stages begin to hold it back. Whether an act is due whatever the ports show.
 #[inline(always)]
-fn meet(words: &mut Words, clock: &mut Clock, queue: &Queue, a: &Arch, m: &Memory) -> bool
+fn meet(
+    words: &mut Words,
+    is_kept: &mut bool,
+    clock: &mut Clock,
+    queue: &Queue,
+    a: &Arch,
+    m: &Memory,
+) -> bool
     requires slack { clock.old.slack ≡ 63 }
     requires words { AreWords m.now queue.now.order queue.now.words }
     ensures clock { clock.new ≡ set (instr_of (here_at (bare a.now) m.now)) (is_some a.now.slot) clock.old }
     ensures runs { result ≡ true → a.now.stopped ≡ None }
     ensures awake { result ≡ true → a.now.asleep ≡ false }
-    ensures kept { result ≡ true → IsKept words.new.kept a.now m.now }
+    ensures kept { is_kept.new ≡ true → IsKept words.new.kept a.now m.now }
     ensures goes { result ≡ true → goes_on (here_at (bare a.now) m.now) ≡ true }
 {
     if words.look_at(a, m, queue.word_at_pc(a, m)) {
-        let word = words.at(a.pc);
-        clock.begin_inner(word, a.slot.is_some());
+        *is_kept = true;
+        clock.begin_inner(words.at(a.pc), a.slot.is_some());
         is_up(a)
     } else {
-        meet_other(words, clock, a, m);
-        false
+        *is_kept = false;
+        meet_other(words, clock, a, m) && is_up(a)
     }
 }
 
@@ -142,7 +177,8 @@ impl<const STAGES: u8> StagedCore<STAGES> {
         let queue = Queue::new(arch.order, arch.pc);
         let mut words = Words::new();
         let mut clock = Clock::new(pipe_with(STAGES));
-        let at_once = meet(&mut words, &mut clock, &queue, &arch, &memory);
+        let mut is_kept = false;
+        let at_once = meet(&mut words, &mut is_kept, &mut clock, &queue, &arch, &memory);
         StagedCore {
             file: arch.regs,
             arch,
@@ -152,6 +188,7 @@ impl<const STAGES: u8> StagedCore<STAGES> {
             clock,
             words,
             at_once,
+            is_kept,
         }
     }
 
@@ -170,6 +207,9 @@ impl<const STAGES: u8> StagedCore<STAGES> {
             self.clock.fill();
             return true;
         }
+        if !self.is_kept {
+            return false;
+        }
         are_all(&self.arch.regs);
         let pc = self.arch.pc;
         let word = self.words.at(pc);
@@ -183,6 +223,7 @@ impl<const STAGES: u8> StagedCore<STAGES> {
         self.queue.fetch(&self.memory, self.arch.pc);
         self.at_once = meet(
             &mut self.words,
+            &mut self.is_kept,
             &mut self.clock,
             &self.queue,
             &self.arch,
@@ -220,6 +261,7 @@ impl<const STAGES: u8> Core for StagedCore<STAGES> {
                 self.queue.fetch(&self.memory, self.arch.pc);
                 self.at_once = meet(
                     &mut self.words,
+                    &mut self.is_kept,
                     &mut self.clock,
                     &self.queue,
                     &self.arch,
@@ -229,6 +271,7 @@ impl<const STAGES: u8> Core for StagedCore<STAGES> {
             }
             Outcome::Idle(idle) => {
                 self.at_once = false;
+                self.is_kept = false;
                 self.queue.fetch(&self.memory, self.arch.pc);
                 self.clock.stay();
                 rest_of(idle, &here, &self.arch, ports)

@@ -1,4 +1,4 @@
-use Rattle.std.proofs.Common.{ℕ, ◌≡◌, ◌+◌, ◌-◌, ◌<◌, ◌≤◌, arith, refl, not, Bool, true, false}
+use Rattle.std.proofs.Common.{ℕ, ◌≡◌, ◌+◌, ◌-◌, ◌≤◌, arith, refl, not, Bool, true, false}
 use Rattle.pipe_latch.specs.declared.in_flight.Stage.{Stage}
 use Rattle.pipe_latch.proofs.FlightLemmas.{flying_file, flying_flights, flying_stages, landed_file, landed_flights, landed_stages, stage_named}
 use Rattle.pipe_latch.proofs.in_flight.Flights.land.Goals as goal

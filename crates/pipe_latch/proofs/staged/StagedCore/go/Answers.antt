@@ -1,6 +1,5 @@
-use Rattle.std.proofs.Common.{arith, subst, sym, ◌∙◌, ◌++◌, ap, ℕ, List, refl}
+use Rattle.std.proofs.Common.{subst, sym, ◌∙◌, ◌++◌, ap, ℕ, List, refl}
 use Rattle.core_regs.specs.State.{written}
-use Rattle.timing_law.specs.Table.{depth_of}
 use Rattle.core_iface.specs.Flights.{begun}
 use Rattle.core_iface.proofs.Keeping.{at_pc}
 use Rattle.pipe_latch.specs.Clocks.{Clocked}
@@ -43,7 +42,7 @@ returns-then-holds-clause-done g c = λ e.
 pub meet-self-requires-clause-words : goal.meet-self-requires-clause-words
 meet-self-requires-clause-words g c =
     let now = c.args.self.now in
-    let at = at_pc now.words.kept c.at-word.result.now now.arch now.memory c.at-word.ensures (now.kept c.requires.at_once) in
+    let at = at_pc now.words.kept c.at-word.result.now now.arch now.memory c.at-word.ensures (now.kept c.if-not-self.false) in
     let left = leaves c.at-word.result.now c.in-Some.flow now.arch c.act_at_once.new.a now.memory c.act_at_once.new.m at.suits c.in-Some.ensures.done c.are_all.ensures in
     c.fetch-2.ensures.words (subst (λ (m : List ℕ). AreWords m c.follow.new.self.order c.follow.new.self.words) (sym left.memory)
     (c.follow.ensures.words now.memory now.arch.order left.done left.leads now.fetched))
@@ -60,7 +59,7 @@ invariant_of-self-2-clause-flying g c =
 pub invariant_of-self-2-clause-forwarded : goal.invariant_of-self-2-clause-forwarded
 invariant_of-self-2-clause-forwarded g c =
     let now = c.args.self.now in
-    let at = at_pc now.words.kept c.at-word.result.now now.arch now.memory c.at-word.ensures (now.kept c.requires.at_once) in
+    let at = at_pc now.words.kept c.at-word.result.now now.arch now.memory c.at-word.ensures (now.kept c.if-not-self.false) in
     let left = leaves c.at-word.result.now c.in-Some.flow now.arch c.act_at_once.new.a now.memory c.act_at_once.new.m at.suits c.in-Some.ensures.done c.are_all.ensures in
     forwarded_after c.depth-depth.result c.written.result (flown 0 now.flights.stages) (flown 0 c.advance-2.new.self.stages) (flown 0 c.begin.new.self.stages) now.file c.advance-2.new.file now.arch.regs c.act_at_once.new.a.regs
     (flies g.row.STAGES c.depth-depth.result now.flights.stages now.clock c.depth-depth.ensures now.pipe now.flying) c.advance-2.ensures.flights c.advance-2.ensures.file
@@ -69,7 +68,7 @@ invariant_of-self-2-clause-forwarded g c =
 pub invariant_of-self-2-clause-fetched : goal.invariant_of-self-2-clause-fetched
 invariant_of-self-2-clause-fetched g c =
     let now = c.args.self.now in
-    let at = at_pc now.words.kept c.at-word.result.now now.arch now.memory c.at-word.ensures (now.kept c.requires.at_once) in
+    let at = at_pc now.words.kept c.at-word.result.now now.arch now.memory c.at-word.ensures (now.kept c.if-not-self.false) in
     let left = leaves c.at-word.result.now c.in-Some.flow now.arch c.act_at_once.new.a now.memory c.act_at_once.new.m at.suits c.in-Some.ensures.done c.are_all.ensures in
     c.fetch-2.ensures.words (subst (λ (m : List ℕ). AreWords m c.follow.new.self.order c.follow.new.self.words) (sym left.memory)
     (c.follow.ensures.words now.memory now.arch.order left.done left.leads now.fetched))
@@ -83,7 +82,7 @@ returns-clause-done g c = λ e.
     let fs = (flown 0 c.advance-2.new.self.stages) in
     staged_acts_alone c.at-word.result.now c.in-Some.flow now.arch c.act_at_once.new.a now.memory c.act_at_once.new.m
     (flown 0 now.flights.stages) (flown 0 c.advance-2.new.self.stages) (flown 0 c.begin.new.self.stages) now.file c.advance-2.new.file c.depth-depth.result _ _ now.clock c.retire.new.self c.meet-self.new.clock
-    (at_pc now.words.kept c.at-word.result.now now.arch now.memory c.at-word.ensures (now.kept c.requires.at_once)) c.in-Some.ensures.done c.are_all.ensures
+    (at_pc now.words.kept c.at-word.result.now now.arch now.memory c.at-word.ensures (now.kept c.if-not-self.false)) c.in-Some.ensures.done c.are_all.ensures
     (ages_of g.row.STAGES c.depth-depth.result (flown 0 now.flights.stages) (flown 0 c.advance-2.new.self.stages) now.file c.advance-2.new.file now.clock c.depth-depth.ensures now.pipe c.advance-2.ensures.flights c.advance-2.ensures.file)
     now.set (sym c.holds.ensures ∙ c.if-holds.false)
     (c.begin.ensures.flights ∙ ap (λ w. fs ++ begun w) c.written.ensures.value) c.retire.ensures c.meet-self.ensures.clock
