@@ -28,10 +28,12 @@ use Rattle.board_machine.specs.Fabric.{Fabric, act_leaves, cleared, entered, ent
 use Rattle.board_machine.specs.History.{is_take, may_take_at, view_told}
 use Rattle.board_machine.proofs.Lines.{IsWired}
 use Rattle.board_machine.proofs.Lists.{all_append, and_false_left, and_false_right, and_left, and_right, slice_get_set_same}
+use Rattle.journal_laws.specs.Progress.{as_one}
 use Rattle.journal_laws.specs.TakeLaw.{IsRightAct, IsRightTake, breaks_of, breaks_taken, changes_line, has_break, high, is_change, is_rise, may_break, may_interrupt, no_take, takes_break}
 use Rattle.journal_laws.proofs.Asking.{Agrees, AgreesIf, IsInstruction, IsTake, act_splits}
 use Rattle.journal_laws.proofs.Lists.{filter_more, filter_skips}
-use Rattle.journal_laws.proofs.Takes.{Account, as_one, flag_at, flag_of, right_same, told_same}
+use Rattle.journal_laws.proofs.Truths.{or_false}
+use Rattle.journal_laws.proofs.Takes.{Account, flag_at, flag_of, right_same, told_same}
 
 -- an entry of another act is on no tape of this one
 own_tapes : (journal : List Entry) (e : Entry) (core k : ℕ) → (e.act ≡ k → ⊥) → tape (journal ++ e ∷ []) core k ≡ tape journal core k
@@ -158,15 +160,11 @@ no_take_right : (breaks : List EventRow) (core : ℕ) (line : Bool) (view : View
 no_take_right breaks core line view cycle (Took t) h = cc
 no_take_right breaks core line view cycle _ h = tt
 
-or_none_true : (a b : Bool) → a || b ≡ false → (a ≡ false) × (b ≡ false)
-or_none_true false b h = (refl, h)
-or_none_true true b h = cc
-
 untaken_right : (breaks : List EventRow) (core : ℕ) (line : Bool) (view : View) (es : List Entry) → any_take es ≡ false → AllByRecursion (λ (e : Entry). IsRightTake breaks core line view e.cycle e.what) es
 unfolding any_take
 untaken_right breaks core line view [] h = tt
 untaken_right breaks core line view (e ∷ es) h =
-    let s = or_none_true (is_take e.what) (list_any (λ (e : Entry). is_take e.what) es) h in
+    let s = or_false (is_take e.what) (list_any (λ (e : Entry). is_take e.what) es) h in
     (no_take_right breaks core line view e.cycle e.what s.0, untaken_right breaks core line view es s.1)
 
 -- the line that the core is shown is the one that was latched
@@ -227,7 +225,7 @@ cleared_flag Break false b = and_nothing b.maskable
 cleared_flag NonMaskable true b = and_nothing b.nonmaskable
 cleared_flag NonMaskable false b = and_true b.maskable
 
-none_flagged : (kind : Bool) → flag_of kind no_breaks ≡ false
+pub none_flagged : (kind : Bool) → flag_of kind no_breaks ≡ false
 unfolding flag_of
 none_flagged true = refl
 none_flagged false = refl

@@ -19,6 +19,7 @@ use Rattle.board_machine.specs.Fabric.{Fabric, cleared, entered, entry_of, line_
 use Rattle.board_machine.specs.History.{actions_in, responses, view_told}
 use Rattle.board_machine.proofs.Journals.{note_tapes, of_note}
 use Rattle.board_machine.proofs.Lists.{and_false_left, and_false_right, slice_get_set_same, slice_get_set_other}
+use Rattle.journal_laws.specs.Progress.{as_one}
 use Rattle.journal_laws.specs.TakeLaw.{IsRightAct, breaks_of, breaks_taken, changes_line, has_break, high, is_change, is_rise, takes_break}
 use Rattle.journal_laws.proofs.Lists.{filter_more, filter_skips}
 
@@ -29,10 +30,6 @@ flag_of false b = b.maskable
 -- whether a break of a kind is pending
 abbrev pub flag_at : List Breaks → ℕ → Bool → Bool
 flag_at pending core kind = flag_of kind (or_none (slice_get pending core))
-
-abbrev pub as_one : Bool → ℕ
-as_one true = 1
-as_one false = 0
 
 pub record Account (breaks : List EventRow) (first : View) (core acts : ℕ) (line : Bool) (f : Fabric) : Type 0 where
   pub right : (act : ℕ) → act < acts → IsRightAct breaks first f.journal core act
