@@ -19,7 +19,7 @@ use Rattle.board_machine.specs.declared.events.Event.TheVariants.{Devices, Host,
 use Rattle.board_machine.specs.declared.events.HostPart.{HostPart}
 use Rattle.board_machine.specs.declared.events.HostPart.TheVariants.{Sends, Takes, Nothing}
 use Rattle.board_machine.specs.DeviceMoves.{line_change, line_driven}
-use Rattle.board_machine.specs.Fabric.{Fabric, act_leaves, breaks_come, entered, entered_some, entries_of_action, entry_of, entry_of_act, first_in, got_of, host_moves, is_kept, link_from, link_to, move_by, next_of, next_sent, no_core, or_low, part_at, room_in, sent_of, shown}
+use Rattle.board_machine.specs.Fabric.{Fabric, act_leaves, entered, entered_some, entries_of_action, entry_of, entry_of_act, first_in, got_of, host_moves, is_kept, link_from, link_to, move_by, next_of, next_sent, no_core, or_low, part_at, room_in, sent_of, shown}
 use Rattle.board_machine.specs.World.{CoreAt, Inputs, Start, Step, Steps, TickMay, World, acts_of}
 use Rattle.board_machine.proofs.Lasting.{step_kept}
 use Rattle.journal_laws.specs.LinkLaw.{LinkLaw, MayStand}

@@ -1,11 +1,9 @@
 -- Every run by cycles has the progress bound.
-use Rattle.std.proofs.Common.{◌≡◌, ℕ, zero, suc, ◌+◌, ◌*◌, ◌<◌, ◌≤◌, ◌&&◌, ◌||◌, List, [], ◌∷◌, ◌++◌, length, map, filter, Option, Some, None, refl, ap, sym, ◌∙◌, subst, inl, inr, ◌⊎◌, arith, slice_get, Bool, true, false, cond, add-one}
+use Rattle.std.proofs.Common.{◌≡◌, ℕ, zero, suc, ◌+◌, ◌*◌, ◌<◌, ◌≤◌, ◌||◌, List, [], ◌∷◌, ◌++◌, length, map, filter, Option, Some, None, refl, ap, sym, ◌∙◌, subst, inl, inr, arith, slice_get, Bool, true, false, add-one}
 use Rattle.std.specs.List.{AllByRecursion, fold, list_any}
 use Rattle.std.specs.Option.{is_some, option_map}
 use Rattle.std.proofs.lemmas.List.{append-nil}
 use Rattle.std.proofs.lemmas.Option.{same_Some, slice_get-map}
-use Rattle.axi_link.specs.declared.item.Item.{Item}
-use Rattle.uart_lite.specs.Machine.{leaving}
 use Rattle.isa_step.specs.declared.acts.Breaks.{Breaks}
 use Rattle.isa_step.specs.declared.acts.Hopes.{Hopes}
 use Rattle.isa_step.specs.Deeds.{View}
@@ -14,28 +12,23 @@ use Rattle.board_file.specs.declared.board.LinkRow.{LinkRow}
 use Rattle.run_journal.specs.declared.entry.Entry.{Entry}
 use Rattle.run_journal.specs.declared.entry.What.{What}
 use Rattle.run_journal.specs.declared.entry.What.TheVariants.{LineUp, LineDown, HostSent, HostGot, Left}
-use Rattle.board_machine.specs.declared.events.Event.{Event}
 use Rattle.board_machine.specs.declared.events.Event.TheVariants.{Devices, Host, Tick, Next}
-use Rattle.board_machine.specs.declared.events.HostPart.{HostPart}
-use Rattle.board_machine.specs.declared.events.HostPart.TheVariants.{Sends, Takes, Nothing}
-use Rattle.board_machine.specs.Bus.{Devices as DeviceSet, Serial}
-use Rattle.board_machine.specs.Cycles.{cycles_of, events_of, turns}
-use Rattle.board_machine.specs.DeviceMoves.{devices_moved, in_order, is_turn, left_at, left_of, line_change, line_driven, timers_moved, uart_cycled, uart_moved, with_devices}
-use Rattle.board_machine.specs.Fabric.{Fabric, breaks_come, entered, entered_some, entry_of, first_in, given, got_of, has_come, hopes_at, host_moves, is_break, is_to_come, kept_wait, move_by, next_cycle, next_sent, no_core, or_low, part_at, pending_after, sent_of, shown}
-use Rattle.board_machine.specs.World.{CoreAt, Inputs, Schedule, Start, Step, Steps, World, acts_of, devices_done, line_latched}
+use Rattle.board_machine.specs.Cycles.{cycles_of, events_of}
+use Rattle.board_machine.specs.DeviceMoves.{line_change, line_driven}
+use Rattle.board_machine.specs.Fabric.{Fabric, breaks_come, entered, entered_some, entry_of, given, has_come, hopes_at, host_moves, is_break, is_to_come, no_core, or_low, pending_after, shown}
+use Rattle.board_machine.specs.World.{CoreAt, Inputs, Schedule, Start, Step, Steps, World, acts_of, line_latched}
 use Rattle.board_machine.proofs.DeviceSteps.{done_enters}
 use Rattle.board_machine.proofs.Staying.{hoped}
 use Rattle.board_machine.proofs.Steps.{moves_enter, steps_split}
 use Rattle.board_machine.proofs.Waits.{none_kept}
 use Rattle.journal_laws.specs.Laws.{KeepsPace, ProgressBoundHolds, RanCycles, order_of}
-use Rattle.journal_laws.specs.Progress.{ProgressBound, by_tick, has, rests_below, ticking, ticks_below}
+use Rattle.journal_laws.specs.Progress.{ProgressBound, by_tick, rests_below, ticking, ticks_below}
 use Rattle.journal_laws.proofs.BreaksCome.{all_given, any_kept}
 use Rattle.journal_laws.proofs.Gone.{AreFewer, gone_ends, gone_fewer}
 use Rattle.journal_laws.proofs.LinkRuns.{LawfulIn, start_lawful_in, step_lawful}
 use Rattle.journal_laws.proofs.Lists.{no_split_at}
 use Rattle.journal_laws.proofs.Moves.{Joins, KeepsParts, devices_keep, host_keeps}
 use Rattle.journal_laws.proofs.Orders.{ticks_once, turns_are}
-use Rattle.journal_laws.proofs.Outcomes.{Gone}
 use Rattle.journal_laws.proofs.Pace.{all_imply, all_more, is_past, law_more, past_entry, past_next}
 use Rattle.journal_laws.proofs.PaceRuns.{Good, hopes_out, tick_good}
 use Rattle.journal_laws.proofs.PaceTicks.{cons_append}

@@ -3,38 +3,32 @@ use Rattle.std.proofs.Common.{◌≡◌, ℕ, zero, suc, ◌+◌, ◌≤◌, Lis
 use Rattle.std.specs.List.{list_any}
 use Rattle.std.specs.Option.{option_map}
 use Rattle.std.proofs.lemmas.Bool.{cases_eq}
-use Rattle.std.proofs.lemmas.Option.{same_Some, slice_get-map}
-use Rattle.axi_link.specs.declared.item.Item.{Item}
+use Rattle.std.proofs.lemmas.Option.{slice_get-map}
 use Rattle.core_regs.specs.declared.causes.WaitOn.{WaitOn}
 use Rattle.isa_step.specs.declared.acts.Breaks.{Breaks}
 use Rattle.isa_step.specs.Deeds.{View, Deed, Due, Does, Waits, Sleeps, Ends, Stops}
 use Rattle.isa_step.specs.Due.{due}
-use Rattle.uart_lite.specs.Machine.{leaving}
 use Rattle.board_file.specs.declared.board.BoardFile.{BoardFile}
 use Rattle.board_file.specs.declared.board.EventRow.{EventRow}
-use Rattle.run_journal.specs.declared.entry.Entry.{Entry}
 use Rattle.run_journal.specs.declared.entry.What.{What}
 use Rattle.run_journal.specs.declared.entry.What.TheVariants.{Wait, LineUp, LineDown, HostSent, HostGot, Left}
 use Rattle.run_journal.specs.Files.{tape}
 use Rattle.board_machine.specs.declared.events.Event.{Event}
 use Rattle.board_machine.specs.declared.events.Event.TheVariants.{Devices, Host, Tick, Next}
-use Rattle.board_machine.specs.declared.events.HostPart.{HostPart}
-use Rattle.board_machine.specs.declared.events.HostPart.TheVariants.{Sends, Takes, Nothing}
-use Rattle.board_machine.specs.Bus.{Serial}
-use Rattle.board_machine.specs.DeviceMoves.{devices_moved, in_order, is_turn, left_at, left_of, line_change, line_driven, timers_moved, uart_cycled, uart_moved, with_devices}
-use Rattle.board_machine.specs.Fabric.{Fabric, act_leaves, breaks_come, entered, entered_some, entries_of_action, entry_of_act, first_in, got_of, host_moves, is_kept, move_by, next_sent, no_breaks, no_core, or_low, or_none, part_at, sent_of, shown, waited}
+use Rattle.board_machine.specs.DeviceMoves.{line_change, line_driven}
+use Rattle.board_machine.specs.Fabric.{Fabric, act_leaves, entered, entered_some, entries_of_action, entry_of_act, host_moves, is_kept, no_breaks, no_core, or_low, shown, waited}
 use Rattle.board_machine.specs.History.{Tells, view_told}
-use Rattle.board_machine.specs.World.{CoreAt, Inputs, IsAct, Reached, Start, Step, Steps, TickMay, TickStep, World, acts_of, devices_done, line_latched}
+use Rattle.board_machine.specs.World.{CoreAt, Inputs, IsAct, Reached, Start, Step, Steps, TickMay, TickStep, World, acts_of, line_latched}
 use Rattle.board_machine.proofs.Keeping.{keeps_runs, wired}
 use Rattle.board_machine.proofs.Lines.{IsWired, steps_wired}
 use Rattle.board_machine.proofs.Tells.{step_tells, which}
 use Rattle.journal_laws.specs.Progress.{as_one}
 use Rattle.journal_laws.specs.Laws.{TakeLawHolds}
-use Rattle.journal_laws.specs.TakeLaw.{TakeLaw, breaks_of, breaks_taken}
+use Rattle.journal_laws.specs.TakeLaw.{breaks_of, breaks_taken}
 use Rattle.journal_laws.proofs.BreaksCome.{come_account, next_account}
 use Rattle.journal_laws.proofs.Moves.{Joins, KeepsParts, devices_keep, host_keeps}
 use Rattle.journal_laws.proofs.TakeActs.{act_account, none_flagged}
-use Rattle.journal_laws.proofs.Takes.{Account, IsEdge, SaysNothing, edge_account, flag_at, flag_of, nothing_account, other_account}
+use Rattle.journal_laws.proofs.Takes.{Account, IsEdge, SaysNothing, edge_account, flag_at, nothing_account, other_account}
 
 -- some line, with the account
 record HasAccount (breaks : List EventRow) (first : View) (core acts : ℕ) (f : Fabric) : Type 0 where
