@@ -1,16 +1,17 @@
 -- The breaks whose cycle comes: no flag is set without one, and none counts twice.
-use Rattle.std.proofs.Common.{◌≡◌, ℕ, ◌+◌, ◌≤◌, ◌==◌, ◌&&◌, ◌||◌, not, List, [], ◌∷◌, length, filter, Option, Some, None, refl, ap, sym, ◌∙◌, subst, inl, inr, ◌⊎◌, arith, slice_get, Bool, true, false, cond, nat_lt}
+use Rattle.std.proofs.Common.{◌≡◌, ℕ, ◌+◌, ◌≤◌, ◌&&◌, not, List, [], ◌∷◌, filter, Option, Some, None, refl, ap, sym, ◌∙◌, inl, inr, ◌⊎◌, arith, slice_get, Bool, true, false, cond, nat_lt}
 use Rattle.std.specs.List.{fold, list_any}
 use Rattle.std.proofs.lemmas.Bool.{cases_eq, eq-eqb, lt-ltb, ltb-false, ltb-true}
 use Rattle.isa_step.specs.declared.acts.Breaks.{Breaks}
 use Rattle.isa_step.specs.Deeds.{View}
 use Rattle.board_file.specs.declared.board.EventRow.{EventRow}
-use Rattle.board_machine.specs.Places.{set_some, touch}
+use Rattle.board_machine.specs.Places.{set_some}
 use Rattle.board_machine.specs.Fabric.{Fabric, breaks_come, flagged, given, has_come, is_break, is_to_come, next_cycle, or_none}
 use Rattle.board_machine.proofs.Lists.{and_left, and_right, slice_get_set_same, slice_get_set_other}
+use Rattle.journal_laws.specs.Progress.{as_one}
 use Rattle.journal_laws.specs.TakeLaw.{breaks_of, has_break}
 use Rattle.journal_laws.proofs.Truths.{or_cases, or_left, or_right}
-use Rattle.journal_laws.proofs.Takes.{Account, as_one, flag_at, flag_of}
+use Rattle.journal_laws.proofs.Takes.{Account, flag_at, flag_of}
 
 pub any_more : (p q : EventRow → Bool) (rs : List EventRow) → ((r : EventRow) → p r ≡ true → q r ≡ true) → list_any p rs ≡ true → list_any q rs ≡ true
 any_more p q [] i h = h

@@ -1,18 +1,16 @@
 -- A core at its end stays there: what can come to it only becomes less.
-use Rattle.std.proofs.Common.{◌≡◌, ℕ, List, Option, Some, None, refl, ap, sym, ◌∙◌, subst, Bool, true, false, ◌&&◌, ◌||◌, cond}
+use Rattle.std.proofs.Common.{◌≡◌, ℕ, Some, refl, ap, sym, ◌∙◌, Bool, true, false, ◌&&◌, ◌||◌}
 use Rattle.std.specs.Prelude.{not}
 use Rattle.core_regs.specs.declared.registers.Arch.{Arch}
 use Rattle.core_regs.specs.State.{bare, interrupts_on}
 use Rattle.delay_imm.specs.Slots.{may_take}
-use Rattle.isa_step.specs.declared.acts.Here.{Here}
 use Rattle.isa_step.specs.declared.acts.Hopes.{Hopes}
-use Rattle.isa_step.specs.declared.acts.Idle.{Idle}
 use Rattle.isa_step.specs.declared.acts.Idle.TheVariants as idle
 use Rattle.isa_step.specs.Shown.{Shown}
 use Rattle.isa_step.specs.Deeds.{View, Deed, Due, Does, Waits, Sleeps, Ends, Stops, Want, Goes, Homes, Gets, Puts, Reads, Writes}
 use Rattle.isa_step.specs.Due.{due, here_of, is_closed, is_masked}
 use Rattle.isa_step.specs.Resting.{IsHoped, idle_awake, idle_by, idle_due, idle_quiet, idle_view, idle_want, is_quiet}
-use Rattle.isa_step.specs.Wants.{is_atomic_here, operands_of, wants}
+use Rattle.isa_step.specs.Wants.{is_atomic_here, operands_of}
 use Rattle.isa_step.proofs.RestLaws.{idle_lasts}
 use Rattle.machine_laws.specs.Holding.{want_of}
 use Rattle.journal_laws.proofs.Outcomes.{Gone, is_home}

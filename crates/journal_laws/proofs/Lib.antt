@@ -1,5 +1,6 @@
 pub mod Truths
 pub mod Lists
+pub mod Moves
 pub mod Links
 pub mod Asking
 pub mod LinkRuns

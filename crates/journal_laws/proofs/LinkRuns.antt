@@ -4,7 +4,6 @@ use Rattle.axi_link.specs.declared.item.Item.{Item}
 use Rattle.axi_link.specs.Channel.{Channel, empty}
 use Rattle.core_regs.specs.declared.causes.Take.{Take}
 use Rattle.core_regs.specs.declared.causes.WaitOn.{WaitOn}
-use Rattle.uart_lite.specs.Machine.{leaving}
 use Rattle.isa_step.specs.declared.acts.Act.{Act}
 use Rattle.isa_step.specs.declared.acts.Act.TheVariants as acts
 use Rattle.isa_step.specs.Shown.{Shown}
@@ -14,20 +13,19 @@ use Rattle.board_file.specs.declared.board.BoardFile.{BoardFile}
 use Rattle.board_file.specs.declared.board.LinkRow.{LinkRow}
 use Rattle.run_journal.specs.declared.entry.Entry.{Entry}
 use Rattle.run_journal.specs.declared.entry.What.{What}
-use Rattle.run_journal.specs.declared.entry.What.TheVariants.{Got, Sent, Seen, Room, Missed, Took, Wait, HostSent, HostGot}
+use Rattle.run_journal.specs.declared.entry.What.TheVariants.{Got, Sent, Seen, Room, Missed, Took, Wait, HostSent, HostGot, Left}
 use Rattle.board_machine.specs.declared.events.Event.{Event}
 use Rattle.board_machine.specs.declared.events.Event.TheVariants.{Devices, Host, Tick, Next}
 use Rattle.board_machine.specs.declared.events.HostPart.{HostPart}
 use Rattle.board_machine.specs.declared.events.HostPart.TheVariants.{Sends, Takes, Nothing}
-use Rattle.board_machine.specs.Bus.{Serial}
-use Rattle.board_machine.specs.DeviceMoves.{devices_moved, is_turn, left_at, left_of, line_change, line_driven, timers_moved, uart_cycled, uart_moved, with_devices}
-use Rattle.board_machine.specs.Fabric.{Fabric, act_leaves, breaks_come, entered, entered_some, entries_of_action, entry_of, entry_of_act, first_in, got_of, host_moves, is_kept, link_from, link_to, move_by, next_of, next_sent, no_core, or_low, part_at, room_in, sent_of, shown}
-use Rattle.board_machine.specs.World.{CoreAt, Inputs, Start, Step, Steps, TickMay, World, acts_of, devices_done, line_latched}
-use Rattle.board_machine.proofs.DeviceSteps.{order_keeps}
+use Rattle.board_machine.specs.DeviceMoves.{line_change, line_driven}
+use Rattle.board_machine.specs.Fabric.{Fabric, act_leaves, entered, entered_some, entries_of_action, entry_of, entry_of_act, first_in, got_of, host_moves, is_kept, link_from, link_to, move_by, next_of, next_sent, no_core, or_low, part_at, room_in, sent_of, shown}
+use Rattle.board_machine.specs.World.{CoreAt, Inputs, Start, Step, Steps, TickMay, World, acts_of}
 use Rattle.board_machine.proofs.Lasting.{step_kept}
 use Rattle.journal_laws.specs.LinkLaw.{LinkLaw, MayStand}
 use Rattle.journal_laws.specs.Laws.{LinkLawHolds}
 use Rattle.journal_laws.proofs.Asking.{Agrees, AgreesIf, ShowsNone, act_splits, wait_shows}
+use Rattle.journal_laws.proofs.Moves.{Joins, KeepsParts, devices_keep}
 use Rattle.journal_laws.proofs.Links.{Lawful, entry_lawful, start_lawful, stands_empty, stands_first, stands_full, stands_room}
 
 abbrev pub LawfulIn : Fabric → Type 0
@@ -131,25 +129,9 @@ host_lawful f (suc n) k = let g = host_moves f n in part_lawful n (part_at (slic
 KeepsLaw : Fabric → Fabric → Type 0
 KeepsLaw f g = LawfulIn f → LawfulIn g
 
-law_itself : (f : Fabric) → KeepsLaw f f
+law_joins : Joins KeepsLaw
 unfolding KeepsLaw
-law_itself f k = k
-
-law_then : (f g h : Fabric) → KeepsLaw f g → KeepsLaw g h → KeepsLaw f h
-unfolding KeepsLaw
-law_then f g h a b k = b (a k)
-
-off_keeps : (core act : ℕ) (o : Option What) (f : Fabric) → IsOffLinks o → KeepsLaw f (entered_some core act o f)
-unfolding KeepsLaw
-off_keeps core act o f h k = off_lawful core act o f h k
-
-byte_off : (k : ℕ) (o : Option ℕ) → IsOffLinks (left_of k o)
-byte_off k None s = tt
-byte_off k (Some byte) s = tt
-
-left_off : (k : ℕ) (o : Option Serial) → IsOffLinks (left_at k o)
-left_off k None s = tt
-left_off k (Some u) s = byte_off k (leaving u.port) s
+law_joins = record { itself = λ f k. k; then = λ f g h a b k. b (a k) }
 
 change_off : (new old : Bool) → IsOffLinks (line_change new old)
 change_off true true s = tt
@@ -157,32 +139,23 @@ change_off true false s = tt
 change_off false true s = tt
 change_off false false s = tt
 
-uart_keeps : (k : ℕ) (f : Fabric) (turn : Bool) → KeepsLaw f (cond turn (entered_some no_core 0 (left_at k (slice_get f.devices.uarts k)) (with_devices (uart_cycled k f.devices) f)) f)
+law_parts : (cores : List CoreAt) → KeepsParts KeepsLaw cores
 unfolding KeepsLaw
-uart_keeps k f false = law_itself f
-uart_keeps k f true = off_keeps no_core 0 (left_at k (slice_get f.devices.uarts k)) (with_devices (uart_cycled k f.devices) f) (left_off k (slice_get f.devices.uarts k))
-
-moved_keeps : (f : Fabric) → KeepsLaw f (devices_moved f)
-unfolding KeepsLaw
-moved_keeps f = order_keeps KeepsLaw uart_moved law_itself law_then (λ k f. uart_keeps k f (is_turn f.cycle (slice_get f.bus.uarts k))) (length f.bus.uarts) (timers_moved f)
-
-latch_keeps : (cores : List CoreAt) (core : ℕ) (f : Fabric) → KeepsLaw f (line_latched cores core f)
-latch_keeps cores core f =
-    let new = line_driven f core in
-    let old = or_low (slice_get f.lines core) in
-    off_keeps core (acts_of (slice_get cores core)) (line_change new old) f (change_off new old)
-
-done_keeps : (cores : List CoreAt) (f : Fabric) → KeepsLaw f (devices_done cores f)
-unfolding devices_done KeepsLaw
-done_keeps cores f =
-    let g = devices_moved (breaks_come f) in
-    law_then f g (devices_done cores f) (moved_keeps (breaks_come f)) (order_keeps KeepsLaw (line_latched cores) law_itself law_then (latch_keeps cores) (length cores) g)
+law_parts cores = record {
+  come = λ f k. k;
+  devices = λ f d k. k;
+  byte = λ f uart byte k. entered_lawful no_core 0 (Left uart byte) f tt k;
+  latch = λ core f k.
+      let new = line_driven f core in
+      let old = or_low (slice_get f.lines core) in
+      off_lawful core (acts_of (slice_get cores core)) (line_change new old) f (change_off new old) k;
+}
 
 -- each step
 
 pub step_lawful : (w v : World) (e : Event) → Step w e v → LawfulIn w.fabric → LawfulIn v.fabric
 unfolding KeepsLaw
-step_lawful w v Devices h k = subst (λ (v : World). LawfulIn v.fabric) (sym h) (done_keeps w.cores w.fabric k)
+step_lawful w v Devices h k = subst (λ (v : World). LawfulIn v.fabric) (sym h) (devices_keep KeepsLaw w.cores law_joins (law_parts w.cores) w.fabric k)
 step_lawful w v Host h k = subst (λ (v : World). LawfulIn v.fabric) (sym h) (host_lawful w.fabric (length w.fabric.rows) k)
 step_lawful w v (Tick core) h k = tick_lawful core (due h.was.view (shown w.fabric core)) h.was w.fabric h.is v.fabric refl h.may k
 step_lawful w v Next h k = subst (λ (v : World). LawfulIn v.fabric) (sym h) k

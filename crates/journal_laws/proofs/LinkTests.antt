@@ -1,10 +1,9 @@
 -- The link law keeps journals that are right, and refuses others.
-use Rattle.std.proofs.Common.{◌≡◌, ℕ, ◌<◌, List, [], ◌∷◌, ◌++◌, length, Option, Some, None, refl, ap, arith, true, false}
+use Rattle.std.proofs.Common.{◌≡◌, ℕ, ◌<◌, List, [], ◌∷◌, ◌++◌, Option, Some, None, refl, ap, arith, true, false}
 use Rattle.axi_link.specs.declared.item.Item.{Item}
-use Rattle.axi_link.specs.Channel.{empty}
 use Rattle.board_file.specs.declared.board.LinkRow.{LinkRow}
 use Rattle.run_journal.specs.declared.entry.Entry.{Entry}
-use Rattle.run_journal.specs.declared.entry.What.TheVariants.{Got, Sent, Seen, Room, Missed, Wait, HostSent, HostGot}
+use Rattle.run_journal.specs.declared.entry.What.TheVariants.{Got, Sent, Seen, Room, Missed, HostSent, HostGot}
 use Rattle.journal_laws.specs.LinkLaw.{LinkLaw, MayStand}
 use Rattle.journal_laws.specs.LinkTests.{LinkLawIsTested, by_core, file_link, host_item, item, one_link, two_items, waits_get, waits_put}
 use Rattle.journal_laws.proofs.Links.{Lawful, entry_lawful, start_lawful}

@@ -13,6 +13,7 @@ use Rattle.run_journal.specs.declared.entry.What.TheVariants.{Got, Sent, HostSen
 use Rattle.board_machine.specs.Places.{touch}
 use Rattle.board_machine.specs.Fabric.{changed, channel_at, first_in, link_from, link_to, links_after, room_in}
 use Rattle.board_machine.proofs.Lists.{slice_get_set_same, slice_get_set_other}
+use Rattle.journal_laws.specs.Progress.{as_one}
 use Rattle.journal_laws.specs.LinkLaw.{HasFirst, HasRoom, IsShut, LinkLaw, LinksFit, MayStand, depth_of, holds, is_link, link_told, put_by, put_into, taken_from, takes_from}
 use Rattle.journal_laws.proofs.Lists.{map_some, map_none, split_more, split_at_more, no_split, no_split_at, one_or_none, filter_map_more, filter_more}
 
@@ -94,11 +95,6 @@ demands rows journal l core (HostGot link item) h = take_demands rows journal l 
 demands rows journal l core (Sent port item) h = put_demands rows journal l item (link_from rows core port) (is_link l (link_from rows core port)) refl h
 demands rows journal l core (HostSent link item) h = put_demands rows journal l item (Some link) (link == l) refl h
 demands rows journal l core _ h = record { puts = λ x e. cc; takes = λ e. cc; one = λ x e. cc }
-
--- a link that holds drop t p later the entry
-abbrev as_one : Bool → ℕ
-as_one true = 1
-as_one false = 0
 
 put_more : (rows : List LinkRow) (l : ℕ) (journal : List Entry) (e : Entry) → put_into rows l (journal ++ e ∷ []) ≡ put_into rows l journal ++ one_or_none (put_by rows l e.core e.what)
 put_more rows l journal e = filter_map_more (λ (e : Entry). put_by rows l e.core e.what) journal e (put_by rows l e.core e.what) refl

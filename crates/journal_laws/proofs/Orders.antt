@@ -1,13 +1,12 @@
 -- The events of a cycle are the ticks of the cores that tick in it, each once.
-use Rattle.std.proofs.Common.{◌≡◌, ℕ, zero, suc, ◌+◌, ◌<◌, ◌≤◌, ◌==◌, ◌||◌, List, [], ◌∷◌, ◌++◌, length, map, filter, Option, Some, None, refl, ap, sym, ◌∙◌, subst, inl, inr, arith, slice_get, Bool, true, false, cond, add-one}
+use Rattle.std.proofs.Common.{◌≡◌, ℕ, zero, suc, ◌<◌, ◌≤◌, ◌==◌, List, [], ◌∷◌, ◌++◌, length, map, filter, refl, ap, sym, ◌∙◌, subst, inl, inr, arith, slice_get, Bool, true, false, cond, add-one}
 use Rattle.std.specs.List.{range_with_len}
 use Rattle.std.proofs.lemmas.List.{append-nil, map-append}
 use Rattle.std.proofs.lemmas.List.Folds.{list_any-append}
 use Rattle.std.proofs.lemmas.List.FromFn.{filter_of_map_range_with_len_more}
 use Rattle.std.proofs.lemmas.Bool.{ne_eqb}
-use Rattle.board_machine.specs.declared.events.Event.{Event}
 use Rattle.board_machine.specs.declared.events.Event.TheVariants.{Tick}
-use Rattle.board_machine.specs.Cycles.{core_at, core_of_turn, divides, ticks_where, turn_of, turns}
+use Rattle.board_machine.specs.Cycles.{core_of_turn, divides, ticks_where, turn_of, turns}
 use Rattle.board_machine.specs.World.{Schedule}
 use Rattle.board_machine.proofs.Turns.{turns_apart}
 use Rattle.journal_laws.specs.Progress.{has, ticking}

@@ -30,7 +30,7 @@ use Rattle.op_table.specs.declared.kinds.Kind.{Kind}
 use Rattle.op_table.specs.declared.kinds.Kind.TheVariants.{Add, Rsub, Divide, BranchIf, Barrier, Load, Store, Get, Put}
 use Rattle.op_table.specs.Kinds.{belongs_into_slot}
 use Rattle.op_table.specs.Table.{kind_of}
-use Rattle.isa_step.specs.Deeds.{View, Deed, Due, Does, Waits, Sleeps, Ends, Stops, Want, Goes, Homes, Gets, Puts, Reads, Writes, after, faults, raises, retires, stops}
+use Rattle.isa_step.specs.Deeds.{View, Deed, Due, Does, Waits, Sleeps, Ends, Stops, Want, Goes, Homes, Gets, Puts, Reads, Writes, faults, raises, retires, stops}
 use Rattle.isa_step.specs.Due.{awake, by_item, by_room, due, due_by, due_with, here_of, is_closed, reply, take_due, takes}
 use Rattle.isa_step.specs.Arithmetic.{cause_of, divided}
 use Rattle.isa_step.specs.Branches.{branches_if, holds}

@@ -1,11 +1,9 @@
 -- Every run by cycles has the progress bound.
-use Rattle.std.proofs.Common.{◌≡◌, ℕ, zero, suc, ◌+◌, ◌*◌, ◌<◌, ◌≤◌, ◌&&◌, ◌||◌, List, [], ◌∷◌, ◌++◌, length, map, filter, Option, Some, None, refl, ap, sym, ◌∙◌, subst, inl, inr, ◌⊎◌, arith, slice_get, Bool, true, false, cond, add-one}
+use Rattle.std.proofs.Common.{◌≡◌, ℕ, zero, suc, ◌+◌, ◌*◌, ◌<◌, ◌≤◌, ◌||◌, List, [], ◌∷◌, ◌++◌, length, map, filter, Option, Some, None, refl, ap, sym, ◌∙◌, subst, inl, inr, arith, slice_get, Bool, true, false, add-one}
 use Rattle.std.specs.List.{AllByRecursion, fold, list_any}
 use Rattle.std.specs.Option.{is_some, option_map}
 use Rattle.std.proofs.lemmas.List.{append-nil}
 use Rattle.std.proofs.lemmas.Option.{same_Some, slice_get-map}
-use Rattle.axi_link.specs.declared.item.Item.{Item}
-use Rattle.uart_lite.specs.Machine.{leaving}
 use Rattle.isa_step.specs.declared.acts.Breaks.{Breaks}
 use Rattle.isa_step.specs.declared.acts.Hopes.{Hopes}
 use Rattle.isa_step.specs.Deeds.{View}
@@ -14,27 +12,23 @@ use Rattle.board_file.specs.declared.board.LinkRow.{LinkRow}
 use Rattle.run_journal.specs.declared.entry.Entry.{Entry}
 use Rattle.run_journal.specs.declared.entry.What.{What}
 use Rattle.run_journal.specs.declared.entry.What.TheVariants.{LineUp, LineDown, HostSent, HostGot, Left}
-use Rattle.board_machine.specs.declared.events.Event.{Event}
 use Rattle.board_machine.specs.declared.events.Event.TheVariants.{Devices, Host, Tick, Next}
-use Rattle.board_machine.specs.declared.events.HostPart.{HostPart}
-use Rattle.board_machine.specs.declared.events.HostPart.TheVariants.{Sends, Takes, Nothing}
-use Rattle.board_machine.specs.Bus.{Devices as DeviceSet, Serial}
-use Rattle.board_machine.specs.Cycles.{cycles_of, events_of, turns}
-use Rattle.board_machine.specs.DeviceMoves.{devices_moved, in_order, is_turn, left_at, left_of, line_change, line_driven, timers_moved, uart_cycled, uart_moved, with_devices}
-use Rattle.board_machine.specs.Fabric.{Fabric, breaks_come, entered, entered_some, entry_of, first_in, given, got_of, has_come, hopes_at, host_moves, is_break, is_to_come, kept_wait, move_by, next_cycle, next_sent, no_core, or_low, part_at, pending_after, sent_of, shown}
-use Rattle.board_machine.specs.World.{CoreAt, Inputs, Schedule, Start, Step, Steps, World, acts_of, devices_done, line_latched}
-use Rattle.board_machine.proofs.DeviceSteps.{done_enters, order_keeps}
+use Rattle.board_machine.specs.Cycles.{cycles_of, events_of}
+use Rattle.board_machine.specs.DeviceMoves.{line_change, line_driven}
+use Rattle.board_machine.specs.Fabric.{Fabric, breaks_come, entered, entered_some, entry_of, given, has_come, hopes_at, host_moves, is_break, is_to_come, no_core, or_low, pending_after, shown}
+use Rattle.board_machine.specs.World.{CoreAt, Inputs, Schedule, Start, Step, Steps, World, acts_of, line_latched}
+use Rattle.board_machine.proofs.DeviceSteps.{done_enters}
 use Rattle.board_machine.proofs.Staying.{hoped}
 use Rattle.board_machine.proofs.Steps.{moves_enter, steps_split}
 use Rattle.board_machine.proofs.Waits.{none_kept}
 use Rattle.journal_laws.specs.Laws.{KeepsPace, ProgressBoundHolds, RanCycles, order_of}
-use Rattle.journal_laws.specs.Progress.{ProgressBound, by_tick, has, rests_below, ticking, ticks_below}
+use Rattle.journal_laws.specs.Progress.{ProgressBound, by_tick, rests_below, ticking, ticks_below}
 use Rattle.journal_laws.proofs.BreaksCome.{all_given, any_kept}
 use Rattle.journal_laws.proofs.Gone.{AreFewer, gone_ends, gone_fewer}
 use Rattle.journal_laws.proofs.LinkRuns.{LawfulIn, start_lawful_in, step_lawful}
 use Rattle.journal_laws.proofs.Lists.{no_split_at}
+use Rattle.journal_laws.proofs.Moves.{Joins, KeepsParts, devices_keep, host_keeps}
 use Rattle.journal_laws.proofs.Orders.{ticks_once, turns_are}
-use Rattle.journal_laws.proofs.Outcomes.{Gone}
 use Rattle.journal_laws.proofs.Pace.{all_imply, all_more, is_past, law_more, past_entry, past_next}
 use Rattle.journal_laws.proofs.PaceRuns.{Good, hopes_out, tick_good}
 use Rattle.journal_laws.proofs.PaceTicks.{cons_append}
@@ -52,13 +46,9 @@ record Calm (order : ℕ → List ℕ) (rows : List LinkRow) (views : List View)
 KeepsCalm : (ℕ → List ℕ) → List LinkRow → List View → List CoreAt → Fabric → Fabric → Type 0
 KeepsCalm order rows views cores f g = Calm order rows views cores f → Calm order rows views cores g
 
-calm_itself : (order : ℕ → List ℕ) (rows : List LinkRow) (views : List View) (cores : List CoreAt) (f : Fabric) → KeepsCalm order rows views cores f f
+calm_joins : (order : ℕ → List ℕ) (rows : List LinkRow) (views : List View) (cores : List CoreAt) → Joins (KeepsCalm order rows views cores)
 unfolding KeepsCalm
-calm_itself order rows views cores f k = k
-
-calm_then : (order : ℕ → List ℕ) (rows : List LinkRow) (views : List View) (cores : List CoreAt) (f g h : Fabric) → KeepsCalm order rows views cores f g → KeepsCalm order rows views cores g h → KeepsCalm order rows views cores f h
-unfolding KeepsCalm
-calm_then order rows views cores f g h a b k = b (a k)
+calm_joins order rows views cores = record { itself = λ f k. k; then = λ f g h a b k. b (a k) }
 
 calm_good : (order : ℕ → List ℕ) (rows : List LinkRow) (views : List View) (w : World) → LawfulIn w.fabric → Calm order rows views w.cores w.fabric → Good order rows views [] w
 calm_good order rows views w l k = record { lawful = l; has_rows = k.has_rows; past = k.past; law = k.law; pace = k.pace }
@@ -96,32 +86,6 @@ unfolding KeepsCalm IsOffTicks
 some_calm order rows views cores by act None f h k = k
 some_calm order rows views cores by act (Some what) f h k = entered_calm order rows views cores f by act what h k
 
-sent_off : (link : ℕ) (o : Option Item) → IsOffTicks (sent_of link o)
-unfolding IsOffTicks
-sent_off link None = tt
-sent_off link (Some item) = refl
-
-got_off : (link : ℕ) (o : Option Item) → IsOffTicks (got_of link o)
-unfolding IsOffTicks
-got_off link None = tt
-got_off link (Some item) = refl
-
-move_off : (f : Fabric) (link : ℕ) (part : HostPart) → IsOffTicks (move_by f link part)
-unfolding IsOffTicks
-move_off f link Sends = sent_off link (next_sent f link)
-move_off f link Takes = got_off link (first_in (slice_get f.links link))
-move_off f link Nothing = tt
-
-byte_off : (k : ℕ) (o : Option ℕ) → IsOffTicks (left_of k o)
-unfolding IsOffTicks
-byte_off k None = tt
-byte_off k (Some byte) = refl
-
-left_off : (k : ℕ) (o : Option Serial) → IsOffTicks (left_at k o)
-unfolding IsOffTicks
-left_off k None = tt
-left_off k (Some u) = byte_off k (leaving u.port)
-
 change_off : (new old : Bool) → IsOffTicks (line_change new old)
 unfolding IsOffTicks
 change_off true true = tt
@@ -130,33 +94,6 @@ change_off false true = refl
 change_off false false = tt
 
 -- the host and the devices
-
-host_calm : (order : ℕ → List ℕ) (rows : List LinkRow) (views : List View) (cores : List CoreAt) (f : Fabric) (n : ℕ) → KeepsCalm order rows views cores f (host_moves f n)
-host_calm order rows views cores f zero = calm_itself order rows views cores f
-host_calm order rows views cores f (suc n) =
-    let g = host_moves f n in
-    let part = part_at (slice_get g.rows n) in
-    calm_then order rows views cores f g (host_moves f (suc n)) (host_calm order rows views cores f n) (some_calm order rows views cores no_core 0 (move_by g n part) g (move_off g n part))
-
-with_calm : (order : ℕ → List ℕ) (rows : List LinkRow) (views : List View) (cores : List CoreAt) (f : Fabric) (d : DeviceSet) → KeepsCalm order rows views cores f (with_devices d f)
-unfolding KeepsCalm
-with_calm order rows views cores f d k = record { has_rows = k.has_rows; past = k.past; law = k.law; pace = k.pace }
-
-uart_calm : (order : ℕ → List ℕ) (rows : List LinkRow) (views : List View) (cores : List CoreAt) (k : ℕ) (f : Fabric) (turn : Bool) → KeepsCalm order rows views cores f (cond turn (entered_some no_core 0 (left_at k (slice_get f.devices.uarts k)) (with_devices (uart_cycled k f.devices) f)) f)
-uart_calm order rows views cores k f false = calm_itself order rows views cores f
-uart_calm order rows views cores k f true =
-    let g = with_devices (uart_cycled k f.devices) f in
-    calm_then order rows views cores f g _ (with_calm order rows views cores f (uart_cycled k f.devices)) (some_calm order rows views cores no_core 0 (left_at k (slice_get f.devices.uarts k)) g (left_off k (slice_get f.devices.uarts k)))
-
-moved_calm : (order : ℕ → List ℕ) (rows : List LinkRow) (views : List View) (cores : List CoreAt) (f : Fabric) → KeepsCalm order rows views cores f (devices_moved f)
-moved_calm order rows views cores f =
-    let t = timers_moved f in
-    let u = in_order uart_moved (length f.bus.uarts) t in
-    let keeps = KeepsCalm order rows views cores in
-    calm_then order rows views cores f u (devices_moved f)
-    (calm_then order rows views cores f t u (with_calm order rows views cores f t.devices)
-    (order_keeps keeps uart_moved (calm_itself order rows views cores) (calm_then order rows views cores) (λ k f. uart_calm order rows views cores k f (is_turn f.cycle (slice_get f.bus.uarts k))) (length f.bus.uarts) t))
-    (with_calm order rows views cores u (devices_moved f).devices)
 
 latch_calm : (order : ℕ → List ℕ) (rows : List LinkRow) (views : List View) (cores : List CoreAt) (core : ℕ) (f : Fabric) → KeepsCalm order rows views cores f (line_latched cores core f)
 latch_calm order rows views cores core f =
@@ -198,14 +135,21 @@ come_calm order rows views cores f k = record {
       };
 }
 
-done_calm : (order : ℕ → List ℕ) (rows : List LinkRow) (views : List View) (cores : List CoreAt) (f : Fabric) → KeepsCalm order rows views cores f (devices_done cores f)
-unfolding devices_done
-done_calm order rows views cores f =
-    let b = breaks_come f in
-    let g = devices_moved b in
-    let keeps = KeepsCalm order rows views cores in
-    calm_then order rows views cores f g (devices_done cores f) (calm_then order rows views cores f b g (come_calm order rows views cores f) (moved_calm order rows views cores b))
-    (order_keeps keeps (line_latched cores) (calm_itself order rows views cores) (calm_then order rows views cores) (latch_calm order rows views cores) (length cores) g)
+calm_parts : (order : ℕ → List ℕ) (rows : List LinkRow) (views : List View) (cores : List CoreAt) → KeepsParts (KeepsCalm order rows views cores) cores
+unfolding KeepsCalm
+calm_parts order rows views cores = record {
+  come = come_calm order rows views cores;
+  devices = λ f d k. record { has_rows = k.has_rows; past = k.past; law = k.law; pace = k.pace };
+  byte = λ f uart byte k. entered_calm order rows views cores f no_core 0 (Left uart byte) refl k;
+  latch = latch_calm order rows views cores;
+}
+
+host_calm : (order : ℕ → List ℕ) (rows : List LinkRow) (views : List View) (cores : List CoreAt) (f : Fabric) (n : ℕ) → KeepsCalm order rows views cores f (host_moves f n)
+unfolding KeepsCalm
+host_calm order rows views cores f n =
+    host_keeps (KeepsCalm order rows views cores) (calm_joins order rows views cores)
+    (λ f link item k. entered_calm order rows views cores f no_core 0 (HostSent link item) refl k)
+    (λ f link item k. entered_calm order rows views cores f no_core 0 (HostGot link item) refl k) f n
 
 -- the events of a cycle
 
@@ -213,7 +157,7 @@ devices_good : (order : ℕ → List ℕ) (rows : List LinkRow) (views : List Vi
 unfolding KeepsCalm
 devices_good order rows views w v h g =
     let l = step_lawful w v Devices h g.lawful in
-    calm_good order rows views v l (subst (λ (x : World). Calm order rows views x.cores x.fabric) (sym h) (done_calm order rows views w.cores w.fabric (good_calm order rows views w g)))
+    calm_good order rows views v l (subst (λ (x : World). Calm order rows views x.cores x.fabric) (sym h) (devices_keep (KeepsCalm order rows views w.cores) w.cores (calm_joins order rows views w.cores) (calm_parts order rows views w.cores) w.fabric (good_calm order rows views w g)))
 
 host_good : (order : ℕ → List ℕ) (rows : List LinkRow) (views : List View) (w v : World) → Step w Host v → Good order rows views [] w → Good order rows views [] v
 unfolding KeepsCalm

@@ -1,5 +1,5 @@
 -- What a core's own tick leaves of its pace.
-use Rattle.std.proofs.Common.{◌≡◌, ℕ, ◌+◌, ◌*◌, ◌<◌, ◌≤◌, ◌==◌, ◌&&◌, ◌||◌, not, List, [], ◌∷◌, ◌++◌, length, map, Option, Some, None, refl, ap, sym, ◌∙◌, subst, inl, inr, ◌⊎◌, arith, slice_get, Bool, true, false, cond, add-one, option_to_list}
+use Rattle.std.proofs.Common.{◌≡◌, ℕ, ◌+◌, ◌*◌, ◌<◌, ◌≤◌, ◌&&◌, ◌||◌, not, List, [], ◌∷◌, ◌++◌, length, map, Option, Some, None, refl, ap, sym, ◌∙◌, subst, inl, inr, ◌⊎◌, arith, slice_get, Bool, true, false, cond, add-one, option_to_list}
 use Rattle.std.specs.List.{AllByRecursion}
 use Rattle.std.specs.Option.{is_some}
 use Rattle.std.proofs.lemmas.List.{append-nil, append_assoc, map-append}
@@ -17,7 +17,7 @@ use Rattle.board_machine.specs.Fabric.{entry_of, kept_wait}
 use Rattle.board_machine.specs.World.{CoreAt}
 use Rattle.machine_laws.specs.Holding.{want_of}
 use Rattle.journal_laws.specs.LinkLaw.{IsShut}
-use Rattle.journal_laws.specs.Progress.{ProgressBound, as_one, asleep_by, asleep_told, before_tick, by_tick, comes_before, has, is_own, is_rest, is_shut, kept_by, rests_below, rests_in, stopped_by, stopped_told, through_tick, ticks_below, told_of, wait_told, waits_still}
+use Rattle.journal_laws.specs.Progress.{ProgressBound, as_one, asleep_by, asleep_told, before_tick, by_tick, comes_before, has, is_own, is_rest, is_shut, kept_by, rests_below, rests_in, stopped_by, stopped_told, through_tick, ticks_below, wait_told, waits_still}
 use Rattle.journal_laws.proofs.Lists.{filter_more, filter_skips}
 use Rattle.journal_laws.proofs.Outcomes.{Gone, access_of}
 use Rattle.journal_laws.proofs.Pace.{all_imply, all_more, filter_all, has_end, has_mid, is_past, law_more, own_is, own_not_before, past_before, past_entry, rests_late, tick_entry_late, told_more}

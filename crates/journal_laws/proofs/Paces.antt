@@ -1,6 +1,5 @@
 -- One core's pace: its ticks are at most 64 for each act, and those in which it could not act.
 use Rattle.std.proofs.Common.{◌≡◌, ℕ, ◌+◌, ◌*◌, ◌<◌, ◌≤◌, ◌==◌, ◌&&◌, List, [], ◌∷◌, ◌++◌, Option, Some, None, refl, ap, ◌∙◌, sym, inl, inr, ◌⊎◌, Bool, true, false, cond}
-use Rattle.std.specs.List.{fold}
 use Rattle.std.specs.Option.{is_some}
 use Rattle.std.proofs.lemmas.Bool.{ne_eqb}
 use Rattle.std.proofs.lemmas.List.Sums.{fold-append}
@@ -14,7 +13,7 @@ use Rattle.run_journal.specs.declared.entry.What.TheVariants.{LineUp, LineDown, 
 use Rattle.board_machine.specs.Fabric.{is_wait, kept_after, kept_wait}
 use Rattle.board_machine.specs.World.{CoreAt}
 use Rattle.machine_laws.specs.Holding.{want_of}
-use Rattle.journal_laws.specs.Progress.{as_one, asleep_by, asleep_told, by_tick, has, is_rest, kept_by, rests_below, stopped_by, stopped_told, ticks_below, told_of, wait_told}
+use Rattle.journal_laws.specs.Progress.{as_one, asleep_by, asleep_told, by_tick, has, is_rest, kept_by, rests_below, stopped_by, stopped_told, ticks_below, wait_told}
 use Rattle.journal_laws.proofs.Outcomes.{Gone, access_of}
 use Rattle.journal_laws.proofs.Pace.{IsLate, rests_late, tick_late, told_more}
 

@@ -1,14 +1,12 @@
 -- An act keeps its core's account.
-use Rattle.std.proofs.Common.{◌≡◌, ℕ, zero, suc, ◌+◌, ◌<◌, ◌≤◌, ◌==◌, ◌&&◌, ◌||◌, not, List, [], ◌∷◌, ◌++◌, length, filter, Option, Some, None, refl, ap, sym, ◌∙◌, subst, inl, inr, ◌⊎◌, arith, slice_get, slice_set, Bool, true, false, cond, nat_lt, length-append}
+use Rattle.std.proofs.Common.{◌≡◌, ℕ, ◌+◌, ◌<◌, ◌≤◌, ◌==◌, ◌&&◌, not, List, [], ◌∷◌, ◌++◌, length, filter, Option, Some, None, refl, ap, sym, ◌∙◌, subst, inl, inr, ◌⊎◌, arith, slice_get, Bool, true, false, cond, nat_lt, length-append}
 use Rattle.std.specs.List.{AllByRecursion, fold, list_any}
 use Rattle.std.proofs.lemmas.Bool.{cases_eq, eq-eqb, ne_eqb}
-use Rattle.std.proofs.lemmas.List.{append-nil}
 use Rattle.std.proofs.lemmas.List.Folds.{list_any-append}
 use Rattle.core_regs.specs.declared.causes.Take.{Take}
 use Rattle.core_regs.specs.declared.causes.Take.TheVariants.{Interrupt, Break, NonMaskable}
 use Rattle.core_regs.specs.declared.registers.Arch.{Arch}
 use Rattle.core_regs.specs.State.{bare, interrupts_on}
-use Rattle.delay_imm.specs.Slots.{may_take}
 use Rattle.isa_step.specs.declared.acts.Act.{Act}
 use Rattle.isa_step.specs.declared.acts.Act.TheVariants as acts
 use Rattle.isa_step.specs.declared.acts.Action.{Action}
@@ -16,22 +14,23 @@ use Rattle.isa_step.specs.declared.acts.Action.TheVariants as action
 use Rattle.isa_step.specs.declared.acts.Breaks.{Breaks}
 use Rattle.isa_step.specs.Shown.{Shown}
 use Rattle.isa_step.specs.Deeds.{View, Deed, Does}
-use Rattle.isa_step.specs.Due.{due, here_of, is_masked, pick, take_by, take_due, takes}
-use Rattle.isa_step.specs.Wants.{is_atomic_here}
+use Rattle.isa_step.specs.Due.{due, here_of, is_masked, pick, take_by, take_due}
 use Rattle.board_file.specs.declared.board.EventRow.{EventRow}
 use Rattle.run_journal.specs.declared.entry.Entry.{Entry}
 use Rattle.run_journal.specs.declared.entry.What.{What}
 use Rattle.run_journal.specs.declared.entry.What.TheVariants.{Took}
 use Rattle.run_journal.specs.Files.{is_of_act, is_response, tape}
-use Rattle.board_machine.specs.Places.{set_some, touch}
+use Rattle.board_machine.specs.Places.{set_some}
 use Rattle.board_machine.specs.Fabric.{Fabric, act_leaves, cleared, entered, entered_some, entries_of_action, entry_of, entry_of_act, entry_of_action, has_controller, line_at, line_set, line_told, no_breaks, or_low, or_none, pending_after, shown}
 use Rattle.board_machine.specs.History.{is_take, may_take_at, view_told}
 use Rattle.board_machine.proofs.Lines.{IsWired}
-use Rattle.board_machine.proofs.Lists.{all_append, and_false_left, and_false_right, and_left, and_right, slice_get_set_same}
-use Rattle.journal_laws.specs.TakeLaw.{IsRightAct, IsRightTake, breaks_of, breaks_taken, changes_line, has_break, high, is_change, is_rise, may_break, may_interrupt, no_take, takes_break}
-use Rattle.journal_laws.proofs.Asking.{Agrees, AgreesIf, IsInstruction, IsTake, act_splits}
+use Rattle.board_machine.proofs.Lists.{and_false_left, and_false_right, and_left, and_right, slice_get_set_same}
+use Rattle.journal_laws.specs.Progress.{as_one}
+use Rattle.journal_laws.specs.TakeLaw.{IsRightAct, IsRightTake, breaks_of, breaks_taken, changes_line, has_break, high, is_change, is_rise, may_interrupt, no_take, takes_break}
+use Rattle.journal_laws.proofs.Asking.{Agrees, AgreesIf, IsInstruction, act_splits}
 use Rattle.journal_laws.proofs.Lists.{filter_more, filter_skips}
-use Rattle.journal_laws.proofs.Takes.{Account, as_one, flag_at, flag_of, right_same, told_same}
+use Rattle.journal_laws.proofs.Truths.{or_false}
+use Rattle.journal_laws.proofs.Takes.{Account, flag_at, flag_of, right_same, told_same}
 
 -- an entry of another act is on no tape of this one
 own_tapes : (journal : List Entry) (e : Entry) (core k : ℕ) → (e.act ≡ k → ⊥) → tape (journal ++ e ∷ []) core k ≡ tape journal core k
@@ -158,15 +157,11 @@ no_take_right : (breaks : List EventRow) (core : ℕ) (line : Bool) (view : View
 no_take_right breaks core line view cycle (Took t) h = cc
 no_take_right breaks core line view cycle _ h = tt
 
-or_none_true : (a b : Bool) → a || b ≡ false → (a ≡ false) × (b ≡ false)
-or_none_true false b h = (refl, h)
-or_none_true true b h = cc
-
 untaken_right : (breaks : List EventRow) (core : ℕ) (line : Bool) (view : View) (es : List Entry) → any_take es ≡ false → AllByRecursion (λ (e : Entry). IsRightTake breaks core line view e.cycle e.what) es
 unfolding any_take
 untaken_right breaks core line view [] h = tt
 untaken_right breaks core line view (e ∷ es) h =
-    let s = or_none_true (is_take e.what) (list_any (λ (e : Entry). is_take e.what) es) h in
+    let s = or_false (is_take e.what) (list_any (λ (e : Entry). is_take e.what) es) h in
     (no_take_right breaks core line view e.cycle e.what s.0, untaken_right breaks core line view es s.1)
 
 -- the line that the core is shown is the one that was latched
@@ -227,7 +222,7 @@ cleared_flag Break false b = and_nothing b.maskable
 cleared_flag NonMaskable true b = and_nothing b.nonmaskable
 cleared_flag NonMaskable false b = and_true b.maskable
 
-none_flagged : (kind : Bool) → flag_of kind no_breaks ≡ false
+pub none_flagged : (kind : Bool) → flag_of kind no_breaks ≡ false
 unfolding flag_of
 none_flagged true = refl
 none_flagged false = refl

@@ -3,37 +3,32 @@ use Rattle.std.proofs.Common.{◌≡◌, ℕ, zero, suc, ◌+◌, ◌≤◌, Lis
 use Rattle.std.specs.List.{list_any}
 use Rattle.std.specs.Option.{option_map}
 use Rattle.std.proofs.lemmas.Bool.{cases_eq}
-use Rattle.std.proofs.lemmas.Option.{same_Some, slice_get-map}
-use Rattle.axi_link.specs.declared.item.Item.{Item}
+use Rattle.std.proofs.lemmas.Option.{slice_get-map}
 use Rattle.core_regs.specs.declared.causes.WaitOn.{WaitOn}
 use Rattle.isa_step.specs.declared.acts.Breaks.{Breaks}
 use Rattle.isa_step.specs.Deeds.{View, Deed, Due, Does, Waits, Sleeps, Ends, Stops}
 use Rattle.isa_step.specs.Due.{due}
-use Rattle.uart_lite.specs.Machine.{leaving}
 use Rattle.board_file.specs.declared.board.BoardFile.{BoardFile}
 use Rattle.board_file.specs.declared.board.EventRow.{EventRow}
-use Rattle.run_journal.specs.declared.entry.Entry.{Entry}
 use Rattle.run_journal.specs.declared.entry.What.{What}
 use Rattle.run_journal.specs.declared.entry.What.TheVariants.{Wait, LineUp, LineDown, HostSent, HostGot, Left}
 use Rattle.run_journal.specs.Files.{tape}
 use Rattle.board_machine.specs.declared.events.Event.{Event}
 use Rattle.board_machine.specs.declared.events.Event.TheVariants.{Devices, Host, Tick, Next}
-use Rattle.board_machine.specs.declared.events.HostPart.{HostPart}
-use Rattle.board_machine.specs.declared.events.HostPart.TheVariants.{Sends, Takes, Nothing}
-use Rattle.board_machine.specs.Bus.{Serial}
-use Rattle.board_machine.specs.DeviceMoves.{devices_moved, in_order, is_turn, left_at, left_of, line_change, line_driven, timers_moved, uart_cycled, uart_moved, with_devices}
-use Rattle.board_machine.specs.Fabric.{Fabric, act_leaves, breaks_come, entered, entered_some, entries_of_action, entry_of_act, first_in, got_of, host_moves, is_kept, move_by, next_sent, no_breaks, no_core, or_low, or_none, part_at, sent_of, shown, waited}
+use Rattle.board_machine.specs.DeviceMoves.{line_change, line_driven}
+use Rattle.board_machine.specs.Fabric.{Fabric, act_leaves, entered, entered_some, entries_of_action, entry_of_act, host_moves, is_kept, no_breaks, no_core, or_low, shown, waited}
 use Rattle.board_machine.specs.History.{Tells, view_told}
-use Rattle.board_machine.specs.World.{CoreAt, Inputs, IsAct, Reached, Start, Step, Steps, TickMay, TickStep, World, acts_of, devices_done, line_latched}
-use Rattle.board_machine.proofs.DeviceSteps.{order_keeps}
+use Rattle.board_machine.specs.World.{CoreAt, Inputs, IsAct, Reached, Start, Step, Steps, TickMay, TickStep, World, acts_of, line_latched}
 use Rattle.board_machine.proofs.Keeping.{keeps_runs, wired}
 use Rattle.board_machine.proofs.Lines.{IsWired, steps_wired}
 use Rattle.board_machine.proofs.Tells.{step_tells, which}
+use Rattle.journal_laws.specs.Progress.{as_one}
 use Rattle.journal_laws.specs.Laws.{TakeLawHolds}
-use Rattle.journal_laws.specs.TakeLaw.{TakeLaw, breaks_of, breaks_taken}
+use Rattle.journal_laws.specs.TakeLaw.{breaks_of, breaks_taken}
 use Rattle.journal_laws.proofs.BreaksCome.{come_account, next_account}
-use Rattle.journal_laws.proofs.TakeActs.{act_account}
-use Rattle.journal_laws.proofs.Takes.{Account, IsEdge, SaysNothing, as_one, edge_account, flag_at, flag_of, nothing_account, other_account}
+use Rattle.journal_laws.proofs.Moves.{Joins, KeepsParts, devices_keep, host_keeps}
+use Rattle.journal_laws.proofs.TakeActs.{act_account, none_flagged}
+use Rattle.journal_laws.proofs.Takes.{Account, IsEdge, SaysNothing, edge_account, flag_at, nothing_account, other_account}
 
 -- some line, with the account
 record HasAccount (breaks : List EventRow) (first : View) (core acts : ℕ) (f : Fabric) : Type 0 where
@@ -44,77 +39,24 @@ record HasAccount (breaks : List EventRow) (first : View) (core acts : ℕ) (f :
 KeepsAccount : List EventRow → View → ℕ → ℕ → Fabric → Fabric → Type 0
 KeepsAccount breaks first core acts f g = HasAccount breaks first core acts f → HasAccount breaks first core acts g
 
-keeps_itself : (breaks : List EventRow) (first : View) (core acts : ℕ) (f : Fabric) → KeepsAccount breaks first core acts f f
+account_joins : (breaks : List EventRow) (first : View) (core acts : ℕ) → Joins (KeepsAccount breaks first core acts)
 unfolding KeepsAccount
-keeps_itself breaks first core acts f a = a
+account_joins breaks first core acts = record { itself = λ f k. k; then = λ f g h a b k. b (a k) }
+
+keeps_itself : (breaks : List EventRow) (first : View) (core acts : ℕ) (f : Fabric) → KeepsAccount breaks first core acts f f
+keeps_itself breaks first core acts f = (account_joins breaks first core acts).itself f
 
 keeps_then : (breaks : List EventRow) (first : View) (core acts : ℕ) (f g h : Fabric) → KeepsAccount breaks first core acts f g → KeepsAccount breaks first core acts g h → KeepsAccount breaks first core acts f h
-unfolding KeepsAccount
-keeps_then breaks first core acts f g h a b k = b (a k)
+keeps_then breaks first core acts f g h a b = (account_joins breaks first core acts).then f g h a b
 
 -- entries that say nothing of acts and lines
 
-abbrev SaysNothingIf : Option What → Type 0
-SaysNothingIf None = Unit {0}
-SaysNothingIf (Some what) = SaysNothing what
-
-nothing_keeps : (breaks : List EventRow) (first : View) (core acts by act : ℕ) (o : Option What) (f : Fabric) → SaysNothingIf o → KeepsAccount breaks first core acts f (entered_some by act o f)
+nothing_keeps : (breaks : List EventRow) (first : View) (core acts by act : ℕ) (what : What) (f : Fabric) → SaysNothing what → KeepsAccount breaks first core acts f (entered by act what f)
 unfolding KeepsAccount
-nothing_keeps breaks first core acts by act None f s a = a
-nothing_keeps breaks first core acts by act (Some what) f s a = record { line = a.line; account = nothing_account breaks first core acts a.line f by act what s a.account }
+nothing_keeps breaks first core acts by act what f s a = record { line = a.line; account = nothing_account breaks first core acts a.line f by act what s a.account }
 
 wait_says : (on : WaitOn) → SaysNothing (Wait on)
 wait_says on = record { response = refl; change = refl; take = λ k. refl; told = refl; pending = λ c ps. refl }
-
-sent_says : (link : ℕ) (o : Option Item) → SaysNothingIf (sent_of link o)
-sent_says link None = tt
-sent_says link (Some item) = record { response = refl; change = refl; take = λ k. refl; told = refl; pending = λ c ps. refl }
-
-got_says : (link : ℕ) (o : Option Item) → SaysNothingIf (got_of link o)
-got_says link None = tt
-got_says link (Some item) = record { response = refl; change = refl; take = λ k. refl; told = refl; pending = λ c ps. refl }
-
-move_says : (f : Fabric) (link : ℕ) (part : HostPart) → SaysNothingIf (move_by f link part)
-move_says f link Sends = sent_says link (next_sent f link)
-move_says f link Takes = got_says link (first_in (slice_get f.links link))
-move_says f link Nothing = tt
-
-byte_says : (k : ℕ) (o : Option ℕ) → SaysNothingIf (left_of k o)
-byte_says k None = tt
-byte_says k (Some byte) = record { response = refl; change = refl; take = λ k. refl; told = refl; pending = λ c ps. refl }
-
-left_says : (k : ℕ) (o : Option Serial) → SaysNothingIf (left_at k o)
-left_says k None = tt
-left_says k (Some u) = byte_says k (leaving u.port)
-
--- the host and the devices
-
-host_keeps : (breaks : List EventRow) (first : View) (core acts : ℕ) (f : Fabric) (n : ℕ) → KeepsAccount breaks first core acts f (host_moves f n)
-host_keeps breaks first core acts f zero = keeps_itself breaks first core acts f
-host_keeps breaks first core acts f (suc n) =
-    let g = host_moves f n in
-    let part = part_at (slice_get g.rows n) in
-    keeps_then breaks first core acts f g (host_moves f (suc n)) (host_keeps breaks first core acts f n) (nothing_keeps breaks first core acts no_core 0 (move_by g n part) g (move_says g n part))
-
-with_keeps : (breaks : List EventRow) (first : View) (core acts : ℕ) (f : Fabric) (d : _) → KeepsAccount breaks first core acts f (with_devices d f)
-unfolding KeepsAccount
-with_keeps breaks first core acts f d a = record { line = a.line; account = record { right = a.account.right; has_line = a.account.has_line; is_high = a.account.is_high; enough = a.account.enough; come = a.account.come; all_from = a.account.all_from } }
-
-uart_keeps : (breaks : List EventRow) (first : View) (core acts k : ℕ) (f : Fabric) (turn : Bool) → KeepsAccount breaks first core acts f (cond turn (entered_some no_core 0 (left_at k (slice_get f.devices.uarts k)) (with_devices (uart_cycled k f.devices) f)) f)
-uart_keeps breaks first core acts k f false = keeps_itself breaks first core acts f
-uart_keeps breaks first core acts k f true =
-    let g = with_devices (uart_cycled k f.devices) f in
-    keeps_then breaks first core acts f g _ (with_keeps breaks first core acts f (uart_cycled k f.devices)) (nothing_keeps breaks first core acts no_core 0 (left_at k (slice_get f.devices.uarts k)) g (left_says k (slice_get f.devices.uarts k)))
-
-moved_keeps : (breaks : List EventRow) (first : View) (core acts : ℕ) (f : Fabric) → KeepsAccount breaks first core acts f (devices_moved f)
-moved_keeps breaks first core acts f =
-    let t = timers_moved f in
-    let u = in_order uart_moved (length f.bus.uarts) t in
-    let keeps = KeepsAccount breaks first core acts in
-    keeps_then breaks first core acts f u (devices_moved f)
-    (keeps_then breaks first core acts f t u (with_keeps breaks first core acts f t.devices)
-    (order_keeps keeps uart_moved (keeps_itself breaks first core acts) (keeps_then breaks first core acts) (λ k f. uart_keeps breaks first core acts k f (is_turn f.cycle (slice_get f.bus.uarts k))) (length f.bus.uarts) t))
-    (with_keeps breaks first core acts u (devices_moved f).devices)
 
 -- the lines
 
@@ -145,18 +87,20 @@ latch_by breaks first cores core s by new old f q (inl e) =
 latch_keeps : (breaks : List EventRow) (first : View) (cores : List CoreAt) (core : ℕ) (s : CoreAt) → slice_get cores core ≡ Some s → (by : ℕ) (f : Fabric) → KeepsAccount breaks first core s.acts f (line_latched cores by f)
 latch_keeps breaks first cores core s q by f = latch_by breaks first cores core s by (line_driven f by) (or_low (slice_get f.lines by)) f q (cases_eq by core)
 
-come_keeps : (breaks : List EventRow) (first : View) (core acts : ℕ) (f : Fabric) → KeepsAccount breaks first core acts f (breaks_come f)
+account_parts : (breaks : List EventRow) (first : View) (cores : List CoreAt) (core : ℕ) (s : CoreAt) → slice_get cores core ≡ Some s → KeepsParts (KeepsAccount breaks first core s.acts) cores
 unfolding KeepsAccount
-come_keeps breaks first core acts f a = record { line = a.line; account = come_account breaks first core acts a.line f a.account }
+account_parts breaks first cores core s q = record {
+  come = λ f a. record { line = a.line; account = come_account breaks first core s.acts a.line f a.account };
+  devices = λ f d a. record { line = a.line; account = record { right = a.account.right; has_line = a.account.has_line; is_high = a.account.is_high; enough = a.account.enough; come = a.account.come; all_from = a.account.all_from } };
+  byte = λ f uart byte. nothing_keeps breaks first core s.acts no_core 0 (Left uart byte) f (record { response = refl; change = refl; take = λ k. refl; told = refl; pending = λ c ps. refl });
+  latch = latch_keeps breaks first cores core s q;
+}
 
-done_keeps : (breaks : List EventRow) (first : View) (cores : List CoreAt) (core : ℕ) (s : CoreAt) (f : Fabric) → slice_get cores core ≡ Some s → KeepsAccount breaks first core s.acts f (devices_done cores f)
-unfolding devices_done
-done_keeps breaks first cores core s f q =
-    let b = breaks_come f in
-    let g = devices_moved b in
-    let keeps = KeepsAccount breaks first core s.acts in
-    keeps_then breaks first core s.acts f g (devices_done cores f) (keeps_then breaks first core s.acts f b g (come_keeps breaks first core s.acts f) (moved_keeps breaks first core s.acts b))
-    (order_keeps keeps (line_latched cores) (keeps_itself breaks first core s.acts) (keeps_then breaks first core s.acts) (latch_keeps breaks first cores core s q) (length cores) g)
+host_account : (breaks : List EventRow) (first : View) (core acts : ℕ) (f : Fabric) (n : ℕ) → KeepsAccount breaks first core acts f (host_moves f n)
+host_account breaks first core acts f n =
+    host_keeps (KeepsAccount breaks first core acts) (account_joins breaks first core acts)
+    (λ f link item. nothing_keeps breaks first core acts no_core 0 (HostSent link item) f (record { response = refl; change = refl; take = λ k. refl; told = refl; pending = λ c ps. refl }))
+    (λ f link item. nothing_keeps breaks first core acts no_core 0 (HostGot link item) f (record { response = refl; change = refl; take = λ k. refl; told = refl; pending = λ c ps. refl })) f n
 
 -- a tick of another core
 
@@ -167,7 +111,7 @@ others_keep breaks first core acts by act deed f n =
 
 waited_keeps : (breaks : List EventRow) (first : View) (core acts by act : ℕ) (on : WaitOn) (f : Fabric) (kept : Bool) → KeepsAccount breaks first core acts f (cond kept f (entered by act (Wait on) f))
 waited_keeps breaks first core acts by act on f true = keeps_itself breaks first core acts f
-waited_keeps breaks first core acts by act on f false = nothing_keeps breaks first core acts by act (Some (Wait on)) f (wait_says on)
+waited_keeps breaks first core acts by act on f false = nothing_keeps breaks first core acts by act (Wait on) f (wait_says on)
 
 later_keeps : (breaks : List EventRow) (first : View) (core acts : ℕ) (f g later : Fabric) → later ≡ g → KeepsAccount breaks first core acts f g → KeepsAccount breaks first core acts f later
 later_keeps breaks first core acts f g later e k = subst (KeepsAccount breaks first core acts f) (sym e) k
@@ -225,9 +169,9 @@ unfolding KeepsAccount
 step_each breaks views w v (Tick core) h a k s first q r = ticked_at breaks views core w v h k s first a r (which core k w v h s (cases_eq k core) q)
 step_each breaks views w v Devices h a core s first q r =
     let there : slice_get w.cores core ≡ Some s = ap (λ (x : World). slice_get x.cores core) (sym h) ∙ q in
-    subst (λ (x : World). HasAccount breaks first core s.acts x.fabric) (sym h) (done_keeps breaks first w.cores core s w.fabric there (a.each core s first there r))
+    subst (λ (x : World). HasAccount breaks first core s.acts x.fabric) (sym h) (devices_keep (KeepsAccount breaks first core s.acts) w.cores (account_joins breaks first core s.acts) (account_parts breaks first w.cores core s there) w.fabric (a.each core s first there r))
 step_each breaks views w v Host h a core s first q r =
-    subst (λ (x : World). HasAccount breaks first core s.acts x.fabric) (sym h) (host_keeps breaks first core s.acts w.fabric (length w.fabric.rows) (a.each core s first (ap (λ (x : World). slice_get x.cores core) (sym h) ∙ q) r))
+    subst (λ (x : World). HasAccount breaks first core s.acts x.fabric) (sym h) (host_account breaks first core s.acts w.fabric (length w.fabric.rows) (a.each core s first (ap (λ (x : World). slice_get x.cores core) (sym h) ∙ q) r))
 step_each breaks views w v Next h a core s first q r =
     let x = a.each core s first (ap (λ (x : World). slice_get x.cores core) (sym h) ∙ q) r in
     subst (λ (x : World). HasAccount breaks first core s.acts x.fabric) (sym h) (record { line = x.line; account = next_account breaks first core s.acts x.line w.fabric x.account })
@@ -245,14 +189,9 @@ steps_accounts breaks views w v (e ∷ es) h a = steps_accounts breaks views h.0
 
 -- the beginning
 
-flag_none : (kind : Bool) → flag_of kind no_breaks ≡ false
-unfolding flag_of
-flag_none true = refl
-flag_none false = refl
-
 no_flag : (cores : List CoreAt) (core : ℕ) (kind : Bool) → flag_at (map (λ (s : CoreAt). no_breaks) cores) core kind ≡ false
-no_flag [] core kind = flag_none kind
-no_flag (s ∷ cores) zero kind = flag_none kind
+no_flag [] core kind = none_flagged kind
+no_flag (s ∷ cores) zero kind = none_flagged kind
 no_flag (s ∷ cores) (suc core) kind = no_flag cores core kind
 
 start_has : (breaks : List EventRow) (cores : List CoreAt) (core : ℕ) (s : CoreAt) (first : View) (f : Fabric) → slice_get cores core ≡ Some s → s.acts ≡ 0 → f.lines ≡ map (λ s. false) cores → f.pending ≡ map (λ s. no_breaks) cores → f.left ≡ breaks → f.journal ≡ [] → HasAccount breaks first core s.acts f

@@ -1,7 +1,7 @@
 -- The take law keeps journals that are right, and refuses others.
 use Rattle.std.proofs.Common.{◌≡◌, ℕ, ◌<◌, ◌≤◌, List, [], ◌∷◌, Some, refl, ap, sym, ◌∙◌, subst, arith, Bool, true, false}
 use Rattle.std.proofs.lemmas.Option.{same_Some}
-use Rattle.core_regs.specs.declared.causes.Take.TheVariants.{Interrupt, Break, NonMaskable}
+use Rattle.core_regs.specs.declared.causes.Take.TheVariants.{Break, NonMaskable}
 use Rattle.isa_step.specs.Deeds.{View}
 use Rattle.isa_step.specs.History.{state_after}
 use Rattle.board_file.specs.declared.board.EventRow.{EventRow}

@@ -1,10 +1,8 @@
 -- A core's account of its acts, its line and its breaks, and what an entry leaves of it.
-use Rattle.std.proofs.Common.{◌≡◌, ℕ, zero, suc, ◌+◌, ◌<◌, ◌≤◌, ◌==◌, ◌&&◌, List, [], ◌∷◌, ◌++◌, length, filter, flat_map, Option, Some, None, refl, ap, sym, ◌∙◌, subst, inl, inr, ◌⊎◌, arith, slice_get, slice_set, Bool, true, false, cond, nat_lt, length-append}
-use Rattle.std.specs.List.{AllByRecursion, fold, list_any}
-use Rattle.std.proofs.lemmas.Bool.{cases_eq, eq-eqb, ne_eqb, lt-ltb, le-ltb}
-use Rattle.std.proofs.lemmas.List.{append-nil}
+use Rattle.std.proofs.Common.{◌≡◌, ℕ, zero, suc, ◌+◌, ◌<◌, ◌≤◌, ◌==◌, ◌&&◌, List, [], ◌∷◌, ◌++◌, length, filter, flat_map, Option, Some, None, refl, ap, sym, ◌∙◌, arith, slice_get, Bool, true, false, nat_lt}
+use Rattle.std.specs.List.{fold, list_any}
+use Rattle.std.proofs.lemmas.Bool.{eq-eqb, ne_eqb, lt-ltb, le-ltb}
 use Rattle.std.proofs.lemmas.List.Sums.{fold-append}
-use Rattle.core_regs.specs.declared.causes.Take.{Take}
 use Rattle.isa_step.specs.declared.acts.Action.{Action}
 use Rattle.isa_step.specs.declared.acts.Breaks.{Breaks}
 use Rattle.isa_step.specs.Deeds.{View}
@@ -12,13 +10,14 @@ use Rattle.isa_step.specs.History.{one_more, state_after}
 use Rattle.board_file.specs.declared.board.EventRow.{EventRow}
 use Rattle.run_journal.specs.declared.entry.Entry.{Entry}
 use Rattle.run_journal.specs.declared.entry.What.{What}
-use Rattle.run_journal.specs.declared.entry.What.TheVariants.{Took, Wait, LineUp, LineDown, HostSent, HostGot, Left}
+use Rattle.run_journal.specs.declared.entry.What.TheVariants.{Took}
 use Rattle.run_journal.specs.Files.{is_of_act, is_response, tape}
-use Rattle.board_machine.specs.Places.{set_some, touch}
+use Rattle.board_machine.specs.Places.{set_some}
 use Rattle.board_machine.specs.Fabric.{Fabric, cleared, entered, entry_of, line_set, line_told, or_none, pending_after}
 use Rattle.board_machine.specs.History.{actions_in, responses, view_told}
 use Rattle.board_machine.proofs.Journals.{note_tapes, of_note}
 use Rattle.board_machine.proofs.Lists.{and_false_left, and_false_right, slice_get_set_same, slice_get_set_other}
+use Rattle.journal_laws.specs.Progress.{as_one}
 use Rattle.journal_laws.specs.TakeLaw.{IsRightAct, breaks_of, breaks_taken, changes_line, has_break, high, is_change, is_rise, takes_break}
 use Rattle.journal_laws.proofs.Lists.{filter_more, filter_skips}
 
@@ -29,10 +28,6 @@ flag_of false b = b.maskable
 -- whether a break of a kind is pending
 abbrev pub flag_at : List Breaks → ℕ → Bool → Bool
 flag_at pending core kind = flag_of kind (or_none (slice_get pending core))
-
-abbrev pub as_one : Bool → ℕ
-as_one true = 1
-as_one false = 0
 
 pub record Account (breaks : List EventRow) (first : View) (core acts : ℕ) (line : Bool) (f : Fabric) : Type 0 where
   pub right : (act : ℕ) → act < acts → IsRightAct breaks first f.journal core act

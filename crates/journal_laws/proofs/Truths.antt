@@ -1,5 +1,5 @@
 -- Small facts on truth values.
-use Rattle.std.proofs.Common.{◌≡◌, ℕ, ◌==◌, ◌&&◌, ◌||◌, refl, inl, inr, ◌⊎◌, Bool, true, false}
+use Rattle.std.proofs.Common.{◌≡◌, ◌&&◌, ◌||◌, refl, inl, inr, ◌⊎◌, Bool, true, false}
 use Rattle.std.specs.Prelude.{not}
 
 pub or_cases : (a b : Bool) → a || b ≡ true → (a ≡ true) ⊎ (b ≡ true)

@@ -1,14 +1,11 @@
 -- Journals that have the progress bound, and journals that it refuses.
-use Rattle.std.specs.Prelude.{ℕ, false, true, List, [], ◌∷◌}
-use Rattle.axi_link.specs.declared.item.Item.{Item}
+use Rattle.std.specs.Prelude.{ℕ, false, List, [], ◌∷◌}
 use Rattle.core_regs.specs.declared.causes.Order.TheVariants.{Big}
 use Rattle.core_regs.specs.declared.causes.Take.TheVariants.{Interrupt}
 use Rattle.core_regs.specs.State.{fresh}
 use Rattle.isa_step.specs.Deeds.{View}
 use Rattle.run_journal.specs.declared.entry.Entry.{Entry}
-use Rattle.run_journal.specs.declared.entry.What.{What}
 use Rattle.run_journal.specs.declared.entry.What.TheVariants.{Got, Took, Slept, Raised, HostSent}
-use Rattle.board_file.specs.declared.board.LinkRow.{LinkRow}
 use Rattle.board_file.specs.declared.board.Turn.TheVariants.{Ascending}
 use Rattle.journal_laws.specs.Progress.{ProgressBound, ticking}
 use Rattle.journal_laws.specs.LinkTests.{file_link, item, waits_get}

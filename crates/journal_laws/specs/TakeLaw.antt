@@ -1,5 +1,5 @@
 -- The take law: where interrupts and breaks were taken, and where no interrupt was passed over.
-use Rattle.std.specs.Prelude.{◌≡◌, ℕ, ◌+◌, ◌<◌, ◌≤◌, ◌==◌, ◌&&◌, not, Bool, true, false, List, length, filter, Option, Some, nat_lt}
+use Rattle.std.specs.Prelude.{◌≡◌, ℕ, ◌+◌, ◌<◌, ◌≤◌, ◌==◌, ◌&&◌, not, Bool, true, false, List, length, filter, Some, nat_lt}
 use Rattle.std.specs.List.{AllByRecursion, fold, list_any}
 use Rattle.core_regs.specs.declared.causes.Take.TheVariants.{Interrupt, Break, NonMaskable}
 use Rattle.core_regs.specs.State.{interrupts_on}

@@ -1,11 +1,11 @@
 -- Journals that have the take law, and journals that it refuses, whatever the views are that its words ask for.
-use Rattle.std.specs.Prelude.{◌≡◌, ℕ, Bool, false, true, List, [], ◌∷◌, Some}
+use Rattle.std.specs.Prelude.{◌≡◌, ℕ, Bool, false, true, List, [], ◌∷◌}
 use Rattle.core_regs.specs.declared.causes.Take.TheVariants.{Interrupt, Break, NonMaskable}
 use Rattle.isa_step.specs.Deeds.{View}
 use Rattle.board_file.specs.declared.board.EventRow.{EventRow}
 use Rattle.run_journal.specs.declared.entry.Entry.{Entry}
 use Rattle.run_journal.specs.declared.entry.What.{What}
-use Rattle.run_journal.specs.declared.entry.What.TheVariants.{Slept, Took, LineUp, LineDown}
+use Rattle.run_journal.specs.declared.entry.What.TheVariants.{Took, LineUp, LineDown}
 use Rattle.board_machine.specs.History.{may_take_at}
 use Rattle.journal_laws.specs.TakeLaw.{TakeLaw, may_break, may_interrupt}
 
@@ -22,7 +22,7 @@ takes_interrupt act = at_act 9 act (Took Interrupt)
 
 pub record TakeLawIsTested : Type 0 where
   pub in_time : (first : View) → may_interrupt first ≡ true → TakeLaw [] first 0 1 (at_act 8 0 LineUp ∷ takes_interrupt 0 ∷ [])
-  pub break_in_time : (first : View) → may_break first ≡ true → TakeLaw (one_break 0 false) first 0 1 (at_act 5 0 (Took Break) ∷ []) 
+  pub break_in_time : (first : View) → may_break first ≡ true → TakeLaw (one_break 0 false) first 0 1 (at_act 5 0 (Took Break) ∷ [])
   -- the line rose before act 0, which let an interrupt in and took none
   pub one_act_late : (first : View) → may_interrupt first ≡ true → TakeLaw [] first 0 2 (at_act 8 0 LineUp ∷ takes_interrupt 1 ∷ []) → ⊥
   pub never_taken : (first : View) → may_interrupt first ≡ true → TakeLaw [] first 0 1 (at_act 8 0 LineUp ∷ []) → ⊥
