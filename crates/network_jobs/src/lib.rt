@@ -14,7 +14,7 @@ pub fn jobs_follow()
 {}
 
 /// Of two runs of network boards with the same links, images and memories, each file of one is a prefix of the other's;
-/// where both came to rest, the files are equal.
+/// when both came to rest, the files are equal.
 #[tactic(auto, using(crate::proofs::Jobs::jobs_agree))]
 pub fn jobs_agree()
     ensures { JobsAgree }
