@@ -23,7 +23,7 @@ use Rattle.net_law.proofs.Diamond.{map_some}
 use Rattle.net_law.proofs.Calm.{Calm, shown_calm}
 
 -- what the journal says of one pipe
-pub record Told (rows : List LinkRow) (journal : List Entry) (link : ℕ) (p : Pipe) : Type 0 where
+pub record Recorded (rows : List LinkRow) (journal : List Entry) (link : ℕ) (p : Pipe) : Type 0 where
   pub whole : p.taken ≤ length p.sent
   pub sent : p.sent ≡ sent_on rows link journal
   pub got : take p.taken p.sent ≡ got_on rows link journal
@@ -35,8 +35,8 @@ feed_at p d = record { items = d.items; place = length p.sent }
 abbrev pub Fed : Plan → List Feed → List Pipe → Type 0
 Fed b feeds pipes = (link : ℕ) (p : Pipe) → part_at (slice_get b.rows link) ≡ Sends → slice_get pipes link ≡ Some p → slice_get feeds link ≡ option_map (feed_at p) (slice_get b.feeds link)
 
-abbrev pub ToldAll : List LinkRow → List Entry → List Pipe → Type 0
-ToldAll rows journal pipes = (link : ℕ) (p : Pipe) → slice_get pipes link ≡ Some p → Told rows journal link p
+abbrev pub AllRecorded : List LinkRow → List Entry → List Pipe → Type 0
+AllRecorded rows journal pipes = (link : ℕ) (p : Pipe) → slice_get pipes link ≡ Some p → Recorded rows journal link p
 
 abbrev pub hosts_in : List Entry → ℕ
 hosts_in journal = length (filter (λ (e : Entry). is_move_of_host e.what) journal)
@@ -44,7 +44,7 @@ hosts_in journal = length (filter (λ (e : Entry). is_move_of_host e.what) journ
 pub record Carries (b : Plan) (f : Fabric) (hosts : ℕ) (pipes : List Pipe) : Type 0 where
   pub rows : f.rows ≡ b.rows
   pub links : f.links ≡ map channel_of pipes
-  pub told : ToldAll b.rows f.journal pipes
+  pub recorded : AllRecorded b.rows f.journal pipes
   pub fed : Fed b f.feeds pipes
   pub calm : Calm f
   pub count : hosts_in f.journal ≡ hosts
@@ -87,23 +87,23 @@ pub hosts_push : (journal : List Entry) (e : Entry) (t : Bool) → is_move_of_ho
 hosts_push journal e true h = rw (filter-append (λ (e : Entry). is_move_of_host e.what) journal (e ∷ []), length-append (filter (λ (e : Entry). is_move_of_host e.what) journal), h) refl
 hosts_push journal e false h = rw (filter-append (λ (e : Entry). is_move_of_host e.what) journal (e ∷ []), length-append (filter (λ (e : Entry). is_move_of_host e.what) journal), h) refl
 
--- what stays told of a pipe that the entry isn't about
-told_other : (rows : List LinkRow) (journal : List Entry) (e : Entry) (link : ℕ) (p : Pipe) → on_link link (put_of rows e.core e.what) ≡ None → on_link link (taken_of rows e.core e.what) ≡ None → Told rows journal link p → Told rows (journal ++ e ∷ []) link p
-told_other rows journal e link p h k t = record {
+-- what stays recorded of a pipe that the entry isn't about
+recorded_other : (rows : List LinkRow) (journal : List Entry) (e : Entry) (link : ℕ) (p : Pipe) → on_link link (put_of rows e.core e.what) ≡ None → on_link link (taken_of rows e.core e.what) ≡ None → Recorded rows journal link p → Recorded rows (journal ++ e ∷ []) link p
+recorded_other rows journal e link p h k t = record {
   whole = t.whole;
   sent = t.sent ∙ sym (sent_push rows link journal e _ None refl h ∙ append-nil _);
   got = t.got ∙ sym (got_push rows link journal e _ None refl k ∙ append-nil _);
 }
 
-told_put : (rows : List LinkRow) (journal : List Entry) (e : Entry) (link : ℕ) (x : Item) (p : Pipe) → put_of rows e.core e.what ≡ Some (link, x) → taken_of rows e.core e.what ≡ None → Told rows journal link p → Told rows (journal ++ e ∷ []) link (gave x p)
-told_put rows journal e link x p h k t = record {
+recorded_put : (rows : List LinkRow) (journal : List Entry) (e : Entry) (link : ℕ) (x : Item) (p : Pipe) → put_of rows e.core e.what ≡ Some (link, x) → taken_of rows e.core e.what ≡ None → Recorded rows journal link p → Recorded rows (journal ++ e ∷ []) link (gave x p)
+recorded_put rows journal e link x p h k t = record {
   whole = omega (arith, t.whole, length-append p.sent (x ∷ []));
   sent = ap (λ xs. xs ++ x ∷ []) t.sent ∙ sym (sent_push rows link journal e _ (Some x) h (on_same link x));
   got = take-append-le p.taken p.sent (x ∷ []) t.whole ∙ t.got ∙ sym (got_push rows link journal e _ None k refl ∙ append-nil _);
 }
 
-told_got : (rows : List LinkRow) (journal : List Entry) (e : Entry) (link : ℕ) (x : Item) (p : Pipe) → put_of rows e.core e.what ≡ None → taken_of rows e.core e.what ≡ Some (link, x) → slice_get p.sent p.taken ≡ Some x → Told rows journal link p → Told rows (journal ++ e ∷ []) link (took p)
-told_got rows journal e link x p h k first t = record {
+recorded_got : (rows : List LinkRow) (journal : List Entry) (e : Entry) (link : ℕ) (x : Item) (p : Pipe) → put_of rows e.core e.what ≡ None → taken_of rows e.core e.what ≡ Some (link, x) → slice_get p.sent p.taken ≡ Some x → Recorded rows journal link p → Recorded rows (journal ++ e ∷ []) link (took p)
+recorded_got rows journal e link x p h k first t = record {
   whole = omega (arith, slice_get_within p.sent p.taken x first);
   sent = t.sent ∙ sym (sent_push rows link journal e _ None h refl ∙ append-nil _);
   got = rw add-one (take_one p.taken p.sent x first ∙ ap (λ xs. xs ++ x ∷ []) t.got ∙ sym (got_push rows link journal e _ (Some x) k (on_same link x)));
@@ -114,23 +114,23 @@ pub link_is : (f : Fabric) (pipes : List Pipe) (link : ℕ) → f.links ≡ map 
 link_is f pipes link e = ap (λ (cs : List Channel). slice_get cs link) e ∙ slice_get-map channel_of pipes link
 
 -- an item goes into a link
-pub told_after_put : (rows : List LinkRow) (journal : List Entry) (e : Entry) (l : ℕ) (x : Item) (pipes : List Pipe) → put_of rows e.core e.what ≡ Some (l, x) → taken_of rows e.core e.what ≡ None → ToldAll rows journal pipes → (link : ℕ) (p : Pipe) → (link ≡ l) ⊎ (link ≡ l → ⊥) → slice_get (touch (gave x) l pipes) link ≡ Some p → Told rows (journal ++ e ∷ []) link p
-told_after_put rows journal e l x pipes h k told link p (inr ne) q =
-    told_other rows journal e link p (ap (on_link link) h ∙ on_other link l x ne) (ap (on_link link) k) (told link p (sym (touch_other (gave x) link l pipes ne) ∙ q))
-told_after_put rows journal e l x pipes h k told link p (inl eq) q =
+pub recorded_after_put : (rows : List LinkRow) (journal : List Entry) (e : Entry) (l : ℕ) (x : Item) (pipes : List Pipe) → put_of rows e.core e.what ≡ Some (l, x) → taken_of rows e.core e.what ≡ None → AllRecorded rows journal pipes → (link : ℕ) (p : Pipe) → (link ≡ l) ⊎ (link ≡ l → ⊥) → slice_get (touch (gave x) l pipes) link ≡ Some p → Recorded rows (journal ++ e ∷ []) link p
+recorded_after_put rows journal e l x pipes h k recorded link p (inr ne) q =
+    recorded_other rows journal e link p (ap (on_link link) h ∙ on_other link l x ne) (ap (on_link link) k) (recorded link p (sym (touch_other (gave x) link l pipes ne) ∙ q))
+recorded_after_put rows journal e l x pipes h k recorded link p (inl eq) q =
     let d = map_some (gave x) (slice_get pipes link) p (sym (touch_same (gave x) link pipes) ∙ ap (λ m. slice_get (touch (gave x) m pipes) link) eq ∙ q) in
-    subst (Told rows (journal ++ e ∷ []) link) d.2 (told_put rows journal e link x d.0 (h ∙ ap (λ m. Some (m, x)) (sym eq)) k (told link d.0 d.1))
+    subst (Recorded rows (journal ++ e ∷ []) link) d.2 (recorded_put rows journal e link x d.0 (h ∙ ap (λ m. Some (m, x)) (sym eq)) k (recorded link d.0 d.1))
 
-pub told_after_got : (rows : List LinkRow) (journal : List Entry) (e : Entry) (l : ℕ) (x : Item) (pipes : List Pipe) → put_of rows e.core e.what ≡ None → taken_of rows e.core e.what ≡ Some (l, x) → ((p : Pipe) → slice_get pipes l ≡ Some p → slice_get p.sent p.taken ≡ Some x) → ToldAll rows journal pipes → (link : ℕ) (p : Pipe) → (link ≡ l) ⊎ (link ≡ l → ⊥) → slice_get (touch took l pipes) link ≡ Some p → Told rows (journal ++ e ∷ []) link p
-told_after_got rows journal e l x pipes h k first told link p (inr ne) q =
-    told_other rows journal e link p (ap (on_link link) h) (ap (on_link link) k ∙ on_other link l x ne) (told link p (sym (touch_other took link l pipes ne) ∙ q))
-told_after_got rows journal e l x pipes h k first told link p (inl eq) q =
+pub recorded_after_got : (rows : List LinkRow) (journal : List Entry) (e : Entry) (l : ℕ) (x : Item) (pipes : List Pipe) → put_of rows e.core e.what ≡ None → taken_of rows e.core e.what ≡ Some (l, x) → ((p : Pipe) → slice_get pipes l ≡ Some p → slice_get p.sent p.taken ≡ Some x) → AllRecorded rows journal pipes → (link : ℕ) (p : Pipe) → (link ≡ l) ⊎ (link ≡ l → ⊥) → slice_get (touch took l pipes) link ≡ Some p → Recorded rows (journal ++ e ∷ []) link p
+recorded_after_got rows journal e l x pipes h k first recorded link p (inr ne) q =
+    recorded_other rows journal e link p (ap (on_link link) h) (ap (on_link link) k ∙ on_other link l x ne) (recorded link p (sym (touch_other took link l pipes ne) ∙ q))
+recorded_after_got rows journal e l x pipes h k first recorded link p (inl eq) q =
     let d = map_some took (slice_get pipes link) p (sym (touch_same took link pipes) ∙ ap (λ m. slice_get (touch took m pipes) link) eq ∙ q) in
-    subst (Told rows (journal ++ e ∷ []) link) d.2 (told_got rows journal e link x d.0 h (k ∙ ap (λ m. Some (m, x)) (sym eq)) (first d.0 (ap (slice_get pipes) (sym eq) ∙ d.1)) (told link d.0 d.1))
+    subst (Recorded rows (journal ++ e ∷ []) link) d.2 (recorded_got rows journal e link x d.0 h (k ∙ ap (λ m. Some (m, x)) (sym eq)) (first d.0 (ap (slice_get pipes) (sym eq) ∙ d.1)) (recorded link d.0 d.1))
 
 -- the links move alike
-pub links_after_put : (rows : List LinkRow) (journal : List Entry) (l : ℕ) (x : Item) (pipes : List Pipe) → ToldAll rows journal pipes → map channel_of (touch (gave x) l pipes) ≡ touch (with_newest x) l (map channel_of pipes)
-links_after_put rows journal l x pipes told = map_touch channel_of (gave x) (with_newest x) l pipes (λ p e. ap (λ (xs : List Item). let c : Channel = record { depth = p.depth; items = xs } in c) (drop-append-le p.taken p.sent (x ∷ []) (told l p e).whole))
+pub links_after_put : (rows : List LinkRow) (journal : List Entry) (l : ℕ) (x : Item) (pipes : List Pipe) → AllRecorded rows journal pipes → map channel_of (touch (gave x) l pipes) ≡ touch (with_newest x) l (map channel_of pipes)
+links_after_put rows journal l x pipes recorded = map_touch channel_of (gave x) (with_newest x) l pipes (λ p e. ap (λ (xs : List Item). let c : Channel = record { depth = p.depth; items = xs } in c) (drop-append-le p.taken p.sent (x ∷ []) (recorded l p e).whole))
 
 pub links_after_got : (l : ℕ) (pipes : List Pipe) → map channel_of (touch took l pipes) ≡ touch without_oldest l (map channel_of pipes)
 links_after_got l pipes = map_touch channel_of took without_oldest l pipes (λ p e. ap (λ (xs : List Item). let c : Channel = record { depth = p.depth; items = xs } in c) (drop_one p.taken p.sent))
@@ -149,7 +149,7 @@ pub note_carries : (b : Plan) (f : Fabric) (hosts : ℕ) (pipes : List Pipe) (co
 note_carries b f hosts pipes core act what i c = record {
   rows = c.rows;
   links = i.links ∙ c.links;
-  told = λ link p q. told_other b.rows f.journal _ link p (ap (on_link link) i.put) (ap (on_link link) i.taken) (c.told link p q);
+  recorded = λ link p q. recorded_other b.rows f.journal _ link p (ap (on_link link) i.put) (ap (on_link link) i.taken) (c.recorded link p q);
   fed = λ link p w q. ap (λ (ds : List Feed). slice_get ds link) i.feeds ∙ c.fed link p w q;
   calm = record {
     line = λ k. ap (λ t. or_low (slice_get (line_set core t f.lines) k)) i.line ∙ c.calm.line k;

@@ -17,7 +17,7 @@ use Rattle.net_law.proofs.Flows.{flow_of, flows, putting, taking, channel_is, fi
 use Rattle.net_law.proofs.Kahn.{IsOffered}
 use Rattle.net_law.proofs.Diamond.{map_some, source_of, writer_of}
 use Rattle.net_law.proofs.Calm.{same_calm}
-use Rattle.net_law.proofs.Carried.{Carries, Fed, feed_at, hosts_push, links_after_got, links_after_put, note_carries, told_after_got, told_after_put}
+use Rattle.net_law.proofs.Carried.{Carries, Fed, feed_at, hosts_push, links_after_got, links_after_put, note_carries, recorded_after_got, recorded_after_put}
 
 -- the input files
 
@@ -47,7 +47,7 @@ got_by_core : (b : Plan) (f : Fabric) (hosts : ℕ) (pipes : List Pipe) (core ac
 got_by_core b f hosts pipes core act port item l h first c = record {
   rows = c.rows;
   links = rw (c.rows, h, c.links) (sym (links_after_got l pipes));
-  told = λ link p q. told_after_got b.rows f.journal _ l item pipes refl (ap (option_map (λ link. (link, item))) h) first c.told link p (cases_eq link l) q;
+  recorded = λ link p q. recorded_after_got b.rows f.journal _ l item pipes refl (ap (option_map (λ link. (link, item))) h) first c.recorded link p (cases_eq link l) q;
   fed = λ link p w q. fed_took_at b f.feeds pipes l link p c.fed (cases_eq link l) w q;
   calm = same_calm f (entered core act (Got port item) f) refl refl refl refl c.calm;
   count = hosts_push f.journal (entry_of f.cycle core act (Got port item)) false refl ∙ add-zero _ ∙ c.count;
@@ -59,8 +59,8 @@ not_source b core port l h w = let k : Some (Source l) ≡ Some (Core core) = sy
 sent_by_core : (b : Plan) (f : Fabric) (hosts : ℕ) (pipes : List Pipe) (core act port : ℕ) (item : Item) (l : ℕ) → link_from b.rows core port ≡ Some l → Carries b f hosts pipes → Carries b (entered core act (Sent port item) f) hosts (touch (gave item) l pipes)
 sent_by_core b f hosts pipes core act port item l h c = record {
   rows = c.rows;
-  links = rw (c.rows, h, c.links) (sym (links_after_put b.rows f.journal l item pipes c.told));
-  told = λ link p q. told_after_put b.rows f.journal _ l item pipes (ap (option_map (λ link. (link, item))) h) refl c.told link p (cases_eq link l) q;
+  links = rw (c.rows, h, c.links) (sym (links_after_put b.rows f.journal l item pipes c.recorded));
+  recorded = λ link p q. recorded_after_put b.rows f.journal _ l item pipes (ap (option_map (λ link. (link, item))) h) refl c.recorded link p (cases_eq link l) q;
   fed = λ link p w q. fed_put_at b f.feeds pipes l item link p (not_source b core port l h) c.fed (cases_eq link l) w q;
   calm = same_calm f (entered core act (Sent port item) f) refl refl refl refl c.calm;
   count = hosts_push f.journal (entry_of f.cycle core act (Sent port item)) false refl ∙ add-zero _ ∙ c.count;
@@ -70,7 +70,7 @@ pub got_by_host : (b : Plan) (f : Fabric) (hosts : ℕ) (pipes : List Pipe) (ite
 got_by_host b f hosts pipes item l first c = record {
   rows = c.rows;
   links = rw c.links (sym (links_after_got l pipes));
-  told = λ link p q. told_after_got b.rows f.journal _ l item pipes refl refl first c.told link p (cases_eq link l) q;
+  recorded = λ link p q. recorded_after_got b.rows f.journal _ l item pipes refl refl first c.recorded link p (cases_eq link l) q;
   fed = λ link p w q. fed_took_at b f.feeds pipes l link p c.fed (cases_eq link l) w q;
   calm = same_calm f (entered no_core 0 (HostGot l item) f) refl refl refl refl c.calm;
   count = hosts_push f.journal (entry_of f.cycle no_core 0 (HostGot l item)) true refl ∙ ap (λ n. n + 1) c.count;
@@ -79,8 +79,8 @@ got_by_host b f hosts pipes item l first c = record {
 pub sent_by_host : (b : Plan) (f : Fabric) (hosts : ℕ) (pipes : List Pipe) (item : Item) (l : ℕ) → Carries b f hosts pipes → Carries b (entered no_core 0 (HostSent l item) f) (hosts + 1) (touch (gave item) l pipes)
 sent_by_host b f hosts pipes item l c = record {
   rows = c.rows;
-  links = rw c.links (sym (links_after_put b.rows f.journal l item pipes c.told));
-  told = λ link p q. told_after_put b.rows f.journal _ l item pipes refl refl c.told link p (cases_eq link l) q;
+  links = rw c.links (sym (links_after_put b.rows f.journal l item pipes c.recorded));
+  recorded = λ link p q. recorded_after_put b.rows f.journal _ l item pipes refl refl c.recorded link p (cases_eq link l) q;
   fed = λ link p w q. fed_host_at b f.feeds pipes l item link p c.fed (cases_eq link l) w q;
   calm = same_calm f (entered no_core 0 (HostSent l item) f) refl refl refl refl c.calm;
   count = hosts_push f.journal (entry_of f.cycle no_core 0 (HostSent l item)) true refl ∙ ap (λ n. n + 1) c.count;

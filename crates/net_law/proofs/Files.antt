@@ -95,7 +95,7 @@ got_all b views inputs w i r s link part =
     let c = q.matches.carries in
     let g = good_along (plan_of b inputs) (length views) (length b.links) (start b.links views) q.net q.acts_done (good_start b views i) q.path in
     let p = slice_get_in q.net.pipes link (omega (arith, row_there b.links link (slice_get b.links link) refl part, g.pipes)) in
-    let t = c.told link p.0 p.1 in
+    let t = c.recorded link p.0 p.1 in
     let move : move_by w.fabric link Takes ≡ None = ap (move_by w.fabric link) (sym (ap (λ (rows : List LinkRow). part_at (slice_get rows link)) c.rows ∙ part)) ∙ s.links link in
     let none : first_in (Some (channel_of p.0)) ≡ None = sym (ap first_in (link_is w.fabric q.net.pipes link c.links ∙ ap (option_map channel_of) p.1)) ∙ no_item link (first_in (slice_get w.fabric.links link)) move in
     sym t.got ∙ taken_all p.0 none ∙ t.sent
@@ -149,7 +149,7 @@ runs_agree_at b c views inputs v w e i j p q =
     let other = λ (link : ℕ) (part : IsOutput b link). subst (λ n. IsPrefixOf (link_file link w.fabric.journal) (file link n)) (sym n) (later link part) in
     record {
       files = λ link part. let x = one link part in let y = other link part in comparable (link_file link v.fabric.journal) (link_file link w.fabric.journal) x.0 y.0 (x.1 ∙ sym y.1);
-      files_behind_rest = λ s link part. subst (IsPrefixOf (link_file link w.fabric.journal)) (sym (f.file_at_rest s (acts_in w) link part)) (other link part);
+      longest_at_rest = λ s link part. subst (IsPrefixOf (link_file link w.fabric.journal)) (sym (f.file_at_rest s (acts_in w) link part)) (other link part);
       files_at_rest = λ s t link part. f.file_at_rest s (acts_in w) link part ∙ ap (file link) n ∙ sym (g.file_at_rest t (acts_in v) link (part_same b c link e part));
       cores_at_rest = λ s t. f.cores_at_rest s (acts_in w) ∙ ap (λ (n : Net). n.processes) n ∙ sym (g.cores_at_rest t (acts_in v));
     }

@@ -32,7 +32,7 @@ use Rattle.net_law.proofs.Confluence.{In, Path, run_leads, rest_is_rounds, round
 use Rattle.net_law.proofs.Flows.{Flow, Still as Nowhere, Take, Put, flows, channel_is, touch_same, touch_other}
 use Rattle.net_law.proofs.Diamond.{Marked, acted, become, diamond, map_some, marked_keeps}
 use Rattle.net_law.proofs.Calm.{all_low, none_pending}
-use Rattle.net_law.proofs.Carried.{Carries, Told, feed_at, hosts_in, shown_is}
+use Rattle.net_law.proofs.Carried.{Carries, Recorded, feed_at, hosts_in, shown_is}
 use Rattle.net_law.proofs.Simulation.{Matches, WorldRun, next_fed, room_inv, sim_steps}
 
 prefix_refl : (xs : List Item) → IsPrefixOf xs xs
@@ -189,9 +189,9 @@ began_matches b views inputs w i s = record {
   carries = record {
     rows = s.has_rows;
     links = s.links ∙ start_links b.links;
-    told = λ link p e.
+    recorded = λ link p e.
         let r = unused_at b.links link p e in
-        subst (Told b.links w.fabric.journal link) r.2 (subst (λ j. Told b.links j link (unused r.0)) (sym s.journal) (record { whole = omega arith; sent = refl; got = refl }));
+        subst (Recorded b.links w.fabric.journal link) r.2 (subst (λ j. Recorded b.links j link (unused r.0)) (sym s.journal) (record { whole = omega arith; sent = refl; got = refl }));
     fed = λ link p file e.
         let r = unused_at b.links link p e in
         ap (λ (ds : List Feed). slice_get ds link) s.feeds ∙ fed_start p (slice_get (feeds_of b.links inputs.links) link) (ap (λ (p : Pipe). p.sent) (sym r.2)) (λ d q. feeds_fresh b.links inputs.links link d q);
@@ -298,7 +298,7 @@ prefix_law b views inputs w i r link l =
     let q = reached_run b views inputs w i r in
     let g = good_along (plan_of b inputs) (length views) (length b.links) (start b.links views) q.net q.acts_done (good_start b views i) q.path in
     let p = slice_get_in q.net.pipes link (omega (arith, g.pipes)) in
-    let t = q.matches.carries.told link p.0 p.1 in
+    let t = q.matches.carries.recorded link p.0 p.1 in
     let a = ahead b views inputs w i r in
     let whole = history (plain b views inputs (acts_in w)) link in
     let grown = grows_along (plan_of b inputs) q.net (plain b views inputs (acts_in w)) a.0 link g.marked a.1 in
@@ -321,7 +321,7 @@ rest_law b views inputs w i r s more =
       sym q.matches.processes ∙ ap (λ (n : Net). n.processes) (sym same),
       λ link l.
           let z = slice_get_in q.net.pipes link (omega (arith, g.pipes)) in
-          sym (q.matches.carries.told link z.0 z.1).sent ∙ ap sent_through (sym z.1) ∙ ap (λ (n : Net). history n link) (sym same),
+          sym (q.matches.carries.recorded link z.0 z.1).sent ∙ ap sent_through (sym z.1) ∙ ap (λ (n : Net). history n link) (sym same),
     )
 
 -- more rounds only add to a history

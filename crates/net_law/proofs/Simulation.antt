@@ -232,7 +232,7 @@ sim_step b n w v Next count m h =
     subst (λ v. WorldRun b n v count) (sym h) (same_run b n (record w { fabric = record w.fabric { cycle = w.fabric.cycle + 1 } }) count (record {
       processes = m.processes;
       hosts = m.hosts;
-      carries = record { rows = c.rows; links = c.links; told = c.told; fed = c.fed; calm = same_calm w.fabric (record w.fabric { cycle = w.fabric.cycle + 1 }) refl refl refl refl c.calm; count = c.count };
+      carries = record { rows = c.rows; links = c.links; recorded = c.recorded; fed = c.fed; calm = same_calm w.fabric (record w.fabric { cycle = w.fabric.cycle + 1 }) refl refl refl refl c.calm; count = c.count };
       marked = m.marked;
       counted = m.counted;
     }))

@@ -76,11 +76,11 @@ pub record NetworkLaw : Type 0 where
 
 -- the consequence
 
--- of each link's two files one is a prefix of the other, and that of a run at rest is the longer one; where both rest the
+-- of each link's two files one is a prefix of the other, and that of a run at rest is the longer one; when both rest, the
 -- files are equal, and so are the cores
 pub record Agree (b : BoardFile) (v w : World) : Type 0 where
   pub files : (link : ℕ) → IsOutput b link → IsPrefixOf (link_file link v.fabric.journal) (link_file link w.fabric.journal) ⊎ IsPrefixOf (link_file link w.fabric.journal) (link_file link v.fabric.journal)
-  pub files_behind_rest : Still v → (link : ℕ) → IsOutput b link → IsPrefixOf (link_file link w.fabric.journal) (link_file link v.fabric.journal)
+  pub longest_at_rest : Still v → (link : ℕ) → IsOutput b link → IsPrefixOf (link_file link w.fabric.journal) (link_file link v.fabric.journal)
   pub files_at_rest : Still v → Still w → (link : ℕ) → IsOutput b link → link_file link v.fabric.journal ≡ link_file link w.fabric.journal
   pub cores_at_rest : Still v → Still w → map process_of v.cores ≡ map process_of w.cores
 
@@ -88,8 +88,8 @@ pub record Agree (b : BoardFile) (v w : World) : Type 0 where
 pub record RunsAgree : Type 0 where
   pub agree : (b c : BoardFile) (views : List View) (inputs : Inputs) (v w : World) → c.links ≡ b.links → IsNetwork b views → IsNetwork c views → Reached b views inputs v → Reached c views inputs w → Agree b v w
 
--- the form for a call: where the board stood for the end of a list of steps from the beginning of a network board, it now
--- follows the reference network
+-- for a call: if the state before it was reached from the beginning of a network board, the state after it follows the
+-- reference network
 abbrev pub KeepsNetwork : World → World → Type 0
 KeepsNetwork old new = (b : BoardFile) (views : List View) (inputs : Inputs) → IsNetwork b views → Reached b views inputs old → FollowsNetwork b views inputs new
 

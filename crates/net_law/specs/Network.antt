@@ -73,7 +73,7 @@ abbrev pub does : Plan → ℕ → Net → Process → Due → Option Net
 does plan core net p (Does deed) = Some (record { processes = slice_set net.processes core (record { view = after p.view deed; acts = p.acts + 1 }); pipes = pipes_after plan.rows core deed.action net.pipes })
 does plan core net p _ = None
 
--- an input file's end sends the file's next item where there is room
+-- an input file's end sends the file's next item if there is room
 abbrev pub to_come : Option Feed → Option Pipe → Option Item
 to_come feed pipe = option_and_then (λ (d : Feed). option_and_then (λ (p : Pipe). slice_get d.items (length p.sent)) pipe) feed
 
@@ -86,7 +86,7 @@ abbrev pub sink_acts : Plan → ℕ → Net → HostPart → Option Net
 sink_acts plan link net Takes = option_map (λ item. record net { pipes = touch took link net.pipes }) (first_in (slice_get (map channel_of net.pipes) link))
 sink_acts plan link net _ = None
 
--- one action, where it can be done
+-- one action, if the actor can do one
 abbrev pub acts : Plan → Actor → Net → Option Net
 acts plan (Core core) net = option_and_then (λ (p : Process). does plan core net p (due p.view (ports_of plan.rows (map channel_of net.pipes) core))) (slice_get net.processes core)
 acts plan (Source link) net = source_acts plan link net (part_at (slice_get plan.rows link))

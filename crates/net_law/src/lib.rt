@@ -22,7 +22,7 @@ pub fn boards_follow_the_network()
 {}
 
 /// Of two runs of boards with the same links, first views and input files, each output file of one is a prefix of the
-/// other's; where both came to rest, files and cores are equal.
+/// other's; when both came to rest, files and cores are equal.
 #[tactic(auto, using(crate::proofs::Files::runs_agree))]
 pub fn runs_agree()
     ensures { RunsAgree }
