@@ -17,6 +17,7 @@ use Rattle.board_machine.specs.World.{CoreAt, Inputs, Reached, Start, Steps, Wor
 use Rattle.board_machine.specs.Runs.{IsRunFrom, KeepsRuns}
 use Rattle.board_run.proofs.LawsKept.{has_laws, has_progress}
 use Rattle.net_law.proofs.Files.{follows_network}
+use Rattle.network_jobs.proofs.Jobs.{jobs_follow}
 use Rattle.board_machine.proofs.Lasting.{step_kept}
 use Rattle.host_io.specs.Outside.{CountsWriteFault}
 use Rattle.host_io.specs.declared.faults.StoreFault.TheVariants as store
@@ -151,7 +152,14 @@ says_played words shelf mid shelf' out out' status board file views inputs first
     let P : BoardFile → Type 0 = λ b. PutsOut words.journal b p.last p.how mid shelf' out out' status in
     let Q : ShelfState → Type 0 = λ s. PutsOut words.journal board p.last p.how s shelf' out out' status in
     says_puts words shelf shelf' out out' status board p.last p.how
-    (record { views = views; inputs = inputs; job = job; ran = run_of board views inputs words.entries words.cycles first p.last p.how began room p.ran p.keeps })
+    (record {
+      views = views;
+      inputs = inputs;
+      job = job;
+      ran = run_of board views inputs words.entries words.cycles first p.last p.how began room p.ran p.keeps;
+      network = λ is. jobs_follow.follows shelf.files board views inputs p.last
+          (record { file = words.file; journal = words.journal; job = job; network = is; first = first; began = began; count = p.ran.count; ran = p.ran.cycles });
+    })
     (apart shelf.files words.file words.journal board views inputs p.last.fabric.journal job) (subst Q quiet (subst P same p.puts))
 
 -- counts of faults

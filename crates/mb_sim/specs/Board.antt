@@ -1,5 +1,6 @@
 -- What `run` does, and the ways in which it can end.
-use Rattle.std.specs.Prelude.{◌≡◌, ℕ, ⊤, List, [], codes, Option, Some, None, Result, Ok, Err, slice_get}
+use Rattle.std.specs.Prelude.{◌≡◌, ℕ, ⊤, true, List, [], codes, Option, Some, None, Result, Ok, Err, slice_get}
+use Rattle.net_law.specs.Law.{FollowsNetwork}
 use Rattle.isa_step.specs.Deeds.{View}
 use Rattle.host_io.specs.Outside.{Adds, Files, ShelfState, SinkState}
 use Rattle.host_io.specs.declared.faults.StoreFault.{StoreFault}
@@ -30,6 +31,8 @@ pub record HasRun (words : RunWords) (files : Option Files) (board : BoardFile) 
   pub inputs : Inputs
   pub job : IsJobOf files words.file words.journal board views inputs
   pub ran : IsRunOf board views inputs words.entries words.cycles last how
+  -- on a network board each link's file is a prefix of what the reference network sends to it, and at rest all of that
+  pub network : board.network ≡ true → FollowsNetwork board views inputs last
 
 -- how a core stands at the end
 abbrev pub core_end : World → ℕ → Option CoreAt → CoreEnd
