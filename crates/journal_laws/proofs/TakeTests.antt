@@ -11,13 +11,13 @@ use Rattle.board_machine.specs.History.{may_take_at, view_told}
 use Rattle.journal_laws.specs.TakeLaw.{IsRightAct, TakeLaw, breaks_of, breaks_taken, may_break, may_interrupt}
 use Rattle.journal_laws.specs.TakeTests.{TakeLawIsTested, at_act, one_break, takes_interrupt}
 
-first_told : (first : View) (journal : List Entry) → view_told first journal 0 0 ≡ Some first
+first_determined : (first : View) (journal : List Entry) → view_told first journal 0 0 ≡ Some first
 unfolding state_after
-first_told first journal = refl
+first_determined first journal = refl
 
 -- the view before the first act is the first one
 first_view : (breaks : List EventRow) (first : View) (journal : List Entry) (r : IsRightAct breaks first journal 0 0) → r.view ≡ first
-first_view breaks first journal r = same_Some _ _ (sym r.told ∙ first_told first journal)
+first_view breaks first journal r = same_Some _ _ (sym r.determined ∙ first_determined first journal)
 
 one_act : (breaks : List EventRow) (first : View) (journal : List Entry) → IsRightAct breaks first journal 0 0 → (act : ℕ) → act < 1 → IsRightAct breaks first journal 0 act
 one_act breaks first journal r act l = let e : 0 ≡ act = omega (arith, l) in subst (IsRightAct breaks first journal 0) e r
@@ -27,7 +27,7 @@ none_taken kind = omega arith
 
 taken_in_time : (first : View) → may_interrupt first ≡ true → TakeLaw [] first 0 1 (at_act 8 0 LineUp ∷ takes_interrupt 0 ∷ [])
 taken_in_time first h = record {
-  right = one_act [] first (at_act 8 0 LineUp ∷ takes_interrupt 0 ∷ []) (record { view = first; told = first_told first (at_act 8 0 LineUp ∷ takes_interrupt 0 ∷ []); takes = (h, tt); passes = λ x. cc });
+  right = one_act [] first (at_act 8 0 LineUp ∷ takes_interrupt 0 ∷ []) (record { view = first; determined = first_determined first (at_act 8 0 LineUp ∷ takes_interrupt 0 ∷ []); takes = (h, tt); passes = λ x. cc });
   enough = none_taken;
 }
 
@@ -37,7 +37,7 @@ one_taken false = let h : 1 ≤ 1 = omega arith in h
 
 break_taken_in_time : (first : View) → may_break first ≡ true → TakeLaw (one_break 0 false) first 0 1 (at_act 5 0 (Took Break) ∷ [])
 break_taken_in_time first h = record {
-  right = one_act (one_break 0 false) first (at_act 5 0 (Took Break) ∷ []) (record { view = first; told = first_told first (at_act 5 0 (Took Break) ∷ []); takes = ((h, refl), tt); passes = λ x. cc });
+  right = one_act (one_break 0 false) first (at_act 5 0 (Took Break) ∷ []) (record { view = first; determined = first_determined first (at_act 5 0 (Took Break) ∷ []); takes = ((h, refl), tt); passes = λ x. cc });
   enough = one_taken;
 }
 

@@ -39,9 +39,9 @@ depth_of None = 0
 depth_of (Some r) = r.depth
 
 -- a link after a journal; a port that leads nowhere is a link of depth 0
-abbrev pub link_told : List LinkRow → List Entry → Option ℕ → Channel
-link_told rows journal None = record { depth = 0; items = [] }
-link_told rows journal (Some link) = record { depth = depth_of (slice_get rows link); items = holds rows link journal }
+abbrev pub link_recorded : List LinkRow → List Entry → Option ℕ → Channel
+link_recorded rows journal None = record { depth = 0; items = [] }
+link_recorded rows journal (Some link) = record { depth = depth_of (slice_get rows link); items = holds rows link journal }
 
 abbrev pub HasFirst : Item → Channel → Type 0
 HasFirst item c = oldest c ≡ Some item
@@ -51,18 +51,18 @@ HasRoom c = length c.items < c.depth
 
 -- the link to a port is empty, or the one from it is full
 abbrev pub IsShut : List LinkRow → List Entry → ℕ → ℕ → Bool → Type 0
-IsShut rows before core port true = let c = link_told rows before (link_from rows core port) in length c.items ≡ c.depth
-IsShut rows before core port false = (link_told rows before (link_to rows core port)).items ≡ []
+IsShut rows before core port true = let c = link_recorded rows before (link_from rows core port) in length c.items ≡ c.depth
+IsShut rows before core port false = (link_recorded rows before (link_to rows core port)).items ≡ []
 
 -- an entry may stand behind these entries: an item that came out is the first one, an item that went in found room, and an
 -- access missed or waited only where there was none
 abbrev pub MayStand : List LinkRow → List Entry → ℕ → What → Type 0
-MayStand rows before core (Got port item) = HasFirst item (link_told rows before (link_to rows core port))
-MayStand rows before core (Seen port item) = HasFirst item (link_told rows before (link_to rows core port))
-MayStand rows before core (HostGot link item) = HasFirst item (link_told rows before (Some link))
-MayStand rows before core (Sent port item) = HasRoom (link_told rows before (link_from rows core port))
-MayStand rows before core (Room port) = HasRoom (link_told rows before (link_from rows core port))
-MayStand rows before core (HostSent link item) = HasRoom (link_told rows before (Some link))
+MayStand rows before core (Got port item) = HasFirst item (link_recorded rows before (link_to rows core port))
+MayStand rows before core (Seen port item) = HasFirst item (link_recorded rows before (link_to rows core port))
+MayStand rows before core (HostGot link item) = HasFirst item (link_recorded rows before (Some link))
+MayStand rows before core (Sent port item) = HasRoom (link_recorded rows before (link_from rows core port))
+MayStand rows before core (Room port) = HasRoom (link_recorded rows before (link_from rows core port))
+MayStand rows before core (HostSent link item) = HasRoom (link_recorded rows before (Some link))
 MayStand rows before core (Missed port full) = IsShut rows before core port full
 MayStand rows before core (Wait on) = IsShut rows before core on.port on.full
 MayStand rows before core _ = Unit {0}

@@ -12,7 +12,7 @@ use Rattle.run_journal.specs.declared.entry.What.{What}
 use Rattle.run_journal.specs.declared.entry.What.TheVariants.{Took, Slept, Stopped, Wait, LineUp, LineDown, HostSent, HostGot, Left}
 use Rattle.board_machine.specs.Cycles.{core_at, divides}
 use Rattle.board_machine.specs.Fabric.{link_from, link_to}
-use Rattle.journal_laws.specs.LinkLaw.{link_told}
+use Rattle.journal_laws.specs.LinkLaw.{link_recorded}
 
 -- ticks
 
@@ -63,8 +63,8 @@ through_tick order core cycle = filter (λ e. comes_before order core cycle e ||
 
 -- what a core's own entries tell
 
-abbrev pub told_of : {X : Type 0} → (X → What → X) → ℕ → X → List Entry → X
-told_of step core start = fold (λ x (e : Entry). if e.core == core then step x e.what else x) start
+abbrev pub recorded : {X : Type 0} → (X → What → X) → ℕ → X → List Entry → X
+recorded step core start = fold (λ x (e : Entry). if e.core == core then step x e.what else x) start
 
 -- it sleeps from a Slept up to a take
 abbrev pub asleep_by : Bool → What → Bool
@@ -81,21 +81,21 @@ abbrev pub kept_by : Option WaitOn → What → Option WaitOn
 kept_by kept (Wait on) = Some on
 kept_by kept what = if by_tick what then None else kept
 
-abbrev pub asleep_told : View → ℕ → List Entry → Bool
-asleep_told first core = told_of asleep_by core first.arch.asleep
+abbrev pub asleep_recorded : View → ℕ → List Entry → Bool
+asleep_recorded first core = recorded asleep_by core first.arch.asleep
 
-abbrev pub stopped_told : View → ℕ → List Entry → Bool
-stopped_told first core = told_of stopped_by core (is_some first.arch.stopped)
+abbrev pub stopped_recorded : View → ℕ → List Entry → Bool
+stopped_recorded first core = recorded stopped_by core (is_some first.arch.stopped)
 
-abbrev pub wait_told : ℕ → List Entry → Option WaitOn
-wait_told core = told_of kept_by core None
+abbrev pub wait_recorded : ℕ → List Entry → Option WaitOn
+wait_recorded core = recorded kept_by core None
 
 -- ticks in which a core could not act
 
 -- the link from a port is full, or the one to it is empty
 abbrev pub is_shut : List LinkRow → List Entry → ℕ → ℕ → Bool → Bool
-is_shut rows journal core port true = not (has_room (link_told rows journal (link_from rows core port)))
-is_shut rows journal core port false = length (link_told rows journal (link_to rows core port)).items == 0
+is_shut rows journal core port true = not (has_room (link_recorded rows journal (link_from rows core port)))
+is_shut rows journal core port false = length (link_recorded rows journal (link_to rows core port)).items == 0
 
 abbrev pub waits_still : List LinkRow → List Entry → ℕ → Option WaitOn → Bool
 waits_still rows journal core None = false
@@ -105,8 +105,8 @@ waits_still rows journal core (Some on) = is_shut rows journal core on.port on.f
 -- lies in a wait and the link was then still empty or full
 abbrev pub rests_in : List LinkRow → View → ℕ → List Entry → List Entry → Bool
 rests_in rows first core before through =
-    (asleep_told first core before && asleep_told first core through)
-    || (stopped_told first core before || waits_still rows before core (wait_told core through))
+    (asleep_recorded first core before && asleep_recorded first core through)
+    || (stopped_recorded first core before || waits_still rows before core (wait_recorded core through))
 
 abbrev pub is_rest : (ℕ → List ℕ) → List LinkRow → View → ℕ → ℕ → List Entry → Bool
 is_rest order rows first core cycle journal = rests_in rows first core (before_tick order core cycle journal) (through_tick order core cycle journal)

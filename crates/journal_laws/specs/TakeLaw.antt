@@ -58,7 +58,7 @@ no_take entries = not (list_any (λ (e : Entry). is_take e.what) entries)
 -- an act: each take of it was right, and where it is no take, no interrupt had to be taken
 pub record IsRightAct (breaks : List EventRow) (first : View) (journal : List Entry) (core act : ℕ) : Type 0 where
   pub view : View
-  pub told : view_told first journal core act ≡ Some view
+  pub determined : view_told first journal core act ≡ Some view
   pub takes : AllByRecursion (λ (e : Entry). IsRightTake breaks core (high journal core act) view e.cycle e.what) (tape journal core act)
   pub passes : no_take (tape journal core act) ≡ true → high journal core act && may_interrupt view ≡ false
 
