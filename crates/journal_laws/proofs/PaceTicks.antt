@@ -67,7 +67,7 @@ waits_rest rows first i before through on k h =
     (or_right (stopped_recorded first i before) (waits_still rows before i (wait_recorded i through)) (ap (waits_still rows before i) k ∙ h))
 
 pub shut_is : (rows : List LinkRow) (journal : List Entry) (i port : ℕ) (full : Bool) → IsShut rows journal i port full → is_shut rows journal i port full ≡ true
-shut_is rows journal i port true h = ap not (le-ltb _ _ (omega (arith, h)))
+shut_is rows journal i port true h = eq-eqb _ _ h
 shut_is rows journal i port false h = eq-eqb _ _ (ap length h)
 
 -- a tick in a wait that is kept

@@ -223,9 +223,11 @@ less a b c d h = omega (arith, h)
 pub take_law_holds : TakeLawHolds
 take_law_holds = record {
   law = λ b views inputs w r core s first q p.
-      let a = (steps_accounts b.events views r.first w r.events r.ran (start_accounts b views inputs r.first r.began)).each core s first q p in
+      let all = steps_accounts b.events views r.first w r.events r.ran (start_accounts b views inputs r.first r.began) in
+      let a = all.each core s first q p in
       record {
         right = a.account.right;
+        no_more = λ act l. all.tells.none_ahead core act s q l;
         enough = λ kind. less (breaks_taken w.fabric.journal core kind) (as_one (flag_at w.fabric.pending core kind)) (breaks_of w.fabric.left core kind) (breaks_of b.events core kind) (a.account.enough kind);
       };
 }
