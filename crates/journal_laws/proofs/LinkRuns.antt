@@ -26,18 +26,18 @@ use Rattle.journal_laws.specs.LinkLaw.{LinkLaw, MayStand}
 use Rattle.journal_laws.specs.Laws.{LinkLawHolds}
 use Rattle.journal_laws.proofs.Asking.{Agrees, AgreesIf, ShowsNone, act_splits, wait_shows}
 use Rattle.journal_laws.proofs.Moves.{Joins, KeepsParts, devices_keep}
-use Rattle.journal_laws.proofs.Links.{Lawful, entry_lawful, start_lawful, stands_empty, stands_first, stands_full, stands_room}
+use Rattle.journal_laws.proofs.Links.{IsValid, entry_valid, start_valid, stands_empty, stands_first, stands_full, stands_room}
 
-abbrev pub LawfulIn : Fabric → Type 0
-LawfulIn f = Lawful f.rows f.links f.journal
+abbrev pub IsValidIn : Fabric → Type 0
+IsValidIn f = IsValid f.rows f.links f.journal
 
 -- what agrees with what a fabric shows stands in its journal
 
-pub none_stands : (f : Fabric) (core port : ℕ) (full : Bool) → LawfulIn f → ShowsNone (shown f core) port full → MayStand f.rows f.journal core (Missed port full)
+pub none_stands : (f : Fabric) (core port : ℕ) (full : Bool) → IsValidIn f → ShowsNone (shown f core) port full → MayStand f.rows f.journal core (Missed port full)
 none_stands f core port true k h = stands_full f.rows f.links f.journal core port k.linked h
 none_stands f core port false k h = stands_empty f.rows f.links f.journal core port k.linked h
 
-agrees_stands : (f : Fabric) (core : ℕ) (what : What) → LawfulIn f → Agrees (shown f core) what → MayStand f.rows f.journal core what
+agrees_stands : (f : Fabric) (core : ℕ) (what : What) → IsValidIn f → Agrees (shown f core) what → MayStand f.rows f.journal core what
 agrees_stands f core (Got port item) k h = stands_first f.rows f.links f.journal (link_to f.rows core port) item k.linked h
 agrees_stands f core (Seen port item) k h = stands_first f.rows f.links f.journal (link_to f.rows core port) item k.linked h
 agrees_stands f core (Sent port item) k h = stands_room f.rows f.links f.journal (link_from f.rows core port) k.linked h
@@ -49,12 +49,12 @@ agrees_stands f core (HostSent link item) k h = elim h [ ]
 agrees_stands f core (HostGot link item) k h = elim h [ ]
 agrees_stands f core _ k h = tt
 
-entered_lawful : (core act : ℕ) (what : What) (f : Fabric) → MayStand f.rows f.journal core what → LawfulIn f → LawfulIn (entered core act what f)
-entered_lawful core act what f s k = entry_lawful f.rows f.links f.journal (entry_of f.cycle core act what) s k
+entered_valid : (core act : ℕ) (what : What) (f : Fabric) → MayStand f.rows f.journal core what → IsValidIn f → IsValidIn (entered core act what f)
+entered_valid core act what f s k = entry_valid f.rows f.links f.journal (entry_of f.cycle core act what) s k
 
-agreed_lawful : (core act : ℕ) (o : Option What) (f : Fabric) → AgreesIf (shown f core) o → LawfulIn f → LawfulIn (entered_some core act o f)
-agreed_lawful core act None f h k = k
-agreed_lawful core act (Some what) f h k = entered_lawful core act what f (agrees_stands f core what k h) k
+agreed_valid : (core act : ℕ) (o : Option What) (f : Fabric) → AgreesIf (shown f core) o → IsValidIn f → IsValidIn (entered_some core act o f)
+agreed_valid core act None f h k = k
+agreed_valid core act (Some what) f h k = entered_valid core act what f (agrees_stands f core what k h) k
 
 -- entries that touch no link
 abbrev IsOffLinks : Option What → Type 0
@@ -67,39 +67,39 @@ act_off (acts.Took t) s = tt
 act_off (acts.Raised esr) s = tt
 act_off (acts.Stopped cause) s = tt
 
-off_lawful : (core act : ℕ) (o : Option What) (f : Fabric) → IsOffLinks o → LawfulIn f → LawfulIn (entered_some core act o f)
-off_lawful core act o f h k = agreed_lawful core act o f (h (shown f core)) k
+off_valid : (core act : ℕ) (o : Option What) (f : Fabric) → IsOffLinks o → IsValidIn f → IsValidIn (entered_some core act o f)
+off_valid core act o f h k = agreed_valid core act o f (h (shown f core)) k
 
 -- a tick
 
-act_lawful : (core act : ℕ) (deed : Deed) (f : Fabric) → AgreesIf (shown f core) (entries_of_action deed.action) → LawfulIn f → LawfulIn (act_leaves core act deed f)
-act_lawful core act deed f h k =
+act_valid : (core act : ℕ) (deed : Deed) (f : Fabric) → AgreesIf (shown f core) (entries_of_action deed.action) → IsValidIn f → IsValidIn (act_leaves core act deed f)
+act_valid core act deed f h k =
     let g = entered_some core act (entries_of_action deed.action) f in
-    off_lawful core act (entry_of_act deed.done.act) g (act_off deed.done.act) (agreed_lawful core act (entries_of_action deed.action) f h k)
+    off_valid core act (entry_of_act deed.done.act) g (act_off deed.done.act) (agreed_valid core act (entries_of_action deed.action) f h k)
 
-wait_lawful : (core act : ℕ) (on : WaitOn) (f : Fabric) (kept : Bool) → ShowsNone (shown f core) on.port on.full → LawfulIn f → LawfulIn (cond kept f (entered core act (Wait on) f))
-wait_lawful core act on f true h k = k
-wait_lawful core act on f false h k = entered_lawful core act (Wait on) f (none_stands f core on.port on.full k h) k
+wait_valid : (core act : ℕ) (on : WaitOn) (f : Fabric) (kept : Bool) → ShowsNone (shown f core) on.port on.full → IsValidIn f → IsValidIn (cond kept f (entered core act (Wait on) f))
+wait_valid core act on f true h k = k
+wait_valid core act on f false h k = entered_valid core act (Wait on) f (none_stands f core on.port on.full k h) k
 
-took_lawful : (core act : ℕ) (t : Take) (f : Fabric) → LawfulIn f → LawfulIn (entered core act (Took t) f)
-took_lawful core act t f k = entered_lawful core act (Took t) f tt k
+took_valid : (core act : ℕ) (t : Take) (f : Fabric) → IsValidIn f → IsValidIn (entered core act (Took t) f)
+took_valid core act t f k = entered_valid core act (Took t) f tt k
 
-done_lawful : (core act : ℕ) (v : View) (deed : Deed) (f : Fabric) → due v (shown f core) ≡ Does deed → LawfulIn f → LawfulIn (act_leaves core act deed f)
-done_lawful core act v deed f e k = elim (act_splits v (shown f core) deed e) [
-  | inl t ↦ subst (λ deed. LawfulIn (act_leaves core act deed f)) (sym t.is) (took_lawful core act t.take f k)
-  | inr i ↦ act_lawful core act deed f i.agrees k
+done_valid : (core act : ℕ) (v : View) (deed : Deed) (f : Fabric) → due v (shown f core) ≡ Does deed → IsValidIn f → IsValidIn (act_leaves core act deed f)
+done_valid core act v deed f e k = elim (act_splits v (shown f core) deed e) [
+  | inl t ↦ subst (λ deed. IsValidIn (act_leaves core act deed f)) (sym t.is) (took_valid core act t.take f k)
+  | inr i ↦ act_valid core act deed f i.agrees k
 ]
 
-tick_lawful : (core : ℕ) (d : Due) (old : CoreAt) (before : Fabric) (new : CoreAt) (later : Fabric) → due old.view (shown before core) ≡ d → TickMay core d old before new later → LawfulIn before → LawfulIn later
-tick_lawful core (Does deed) old before new later e (inl a) k = subst LawfulIn (sym a.fabric) (done_lawful core old.acts old.view deed before e k)
-tick_lawful core (Does deed) old before new later e (inr i) k = subst LawfulIn (sym i.fabric) k
-tick_lawful core (Waits port full) old before new later e (inl i) k =
+tick_valid : (core : ℕ) (d : Due) (old : CoreAt) (before : Fabric) (new : CoreAt) (later : Fabric) → due old.view (shown before core) ≡ d → TickMay core d old before new later → IsValidIn before → IsValidIn later
+tick_valid core (Does deed) old before new later e (inl a) k = subst IsValidIn (sym a.fabric) (done_valid core old.acts old.view deed before e k)
+tick_valid core (Does deed) old before new later e (inr i) k = subst IsValidIn (sym i.fabric) k
+tick_valid core (Waits port full) old before new later e (inl i) k =
     let on : WaitOn = record { port = port; full = full } in
-    subst LawfulIn (sym i.fabric) (wait_lawful core old.acts on before (is_kept core old.acts before.journal) (wait_shows old.view (shown before core) port full e) k)
-tick_lawful core (Waits port full) old before new later e (inr i) k = subst LawfulIn (sym i.fabric) k
-tick_lawful core Sleeps old before new later e i k = subst LawfulIn (sym i.fabric) k
-tick_lawful core Ends old before new later e i k = subst LawfulIn (sym i.fabric) k
-tick_lawful core (Stops cause) old before new later e i k = subst LawfulIn (sym i.fabric) k
+    subst IsValidIn (sym i.fabric) (wait_valid core old.acts on before (is_kept core old.acts before.journal) (wait_shows old.view (shown before core) port full e) k)
+tick_valid core (Waits port full) old before new later e (inr i) k = subst IsValidIn (sym i.fabric) k
+tick_valid core Sleeps old before new later e i k = subst IsValidIn (sym i.fabric) k
+tick_valid core Ends old before new later e i k = subst IsValidIn (sym i.fabric) k
+tick_valid core (Stops cause) old before new later e i k = subst IsValidIn (sym i.fabric) k
 
 -- the host's moves
 
@@ -107,27 +107,27 @@ room_found : (t : Bool) (o : Option Item) (x : Item) → cond {A = Option Item} 
 room_found true o x h = refl
 room_found false o x h = cc
 
-sent_lawful : (link : ℕ) (o : Option Item) (f : Fabric) → next_sent f link ≡ o → LawfulIn f → LawfulIn (entered_some no_core 0 (sent_of link o) f)
-sent_lawful link None f h k = k
-sent_lawful link (Some x) f h k = entered_lawful no_core 0 (HostSent link x) f (stands_room f.rows f.links f.journal (Some link) k.linked (room_found (room_in (slice_get f.links link)) (next_of (slice_get f.feeds link)) x h)) k
+sent_valid : (link : ℕ) (o : Option Item) (f : Fabric) → next_sent f link ≡ o → IsValidIn f → IsValidIn (entered_some no_core 0 (sent_of link o) f)
+sent_valid link None f h k = k
+sent_valid link (Some x) f h k = entered_valid no_core 0 (HostSent link x) f (stands_room f.rows f.links f.journal (Some link) k.linked (room_found (room_in (slice_get f.links link)) (next_of (slice_get f.feeds link)) x h)) k
 
-got_lawful : (link : ℕ) (o : Option Item) (f : Fabric) → first_in (slice_get f.links link) ≡ o → LawfulIn f → LawfulIn (entered_some no_core 0 (got_of link o) f)
-got_lawful link None f h k = k
-got_lawful link (Some x) f h k = entered_lawful no_core 0 (HostGot link x) f (stands_first f.rows f.links f.journal (Some link) x k.linked h) k
+got_valid : (link : ℕ) (o : Option Item) (f : Fabric) → first_in (slice_get f.links link) ≡ o → IsValidIn f → IsValidIn (entered_some no_core 0 (got_of link o) f)
+got_valid link None f h k = k
+got_valid link (Some x) f h k = entered_valid no_core 0 (HostGot link x) f (stands_first f.rows f.links f.journal (Some link) x k.linked h) k
 
-part_lawful : (link : ℕ) (part : HostPart) (f : Fabric) → LawfulIn f → LawfulIn (entered_some no_core 0 (move_by f link part) f)
-part_lawful link Sends f k = sent_lawful link (next_sent f link) f refl k
-part_lawful link Takes f k = got_lawful link (first_in (slice_get f.links link)) f refl k
-part_lawful link Nothing f k = k
+part_valid : (link : ℕ) (part : HostPart) (f : Fabric) → IsValidIn f → IsValidIn (entered_some no_core 0 (move_by f link part) f)
+part_valid link Sends f k = sent_valid link (next_sent f link) f refl k
+part_valid link Takes f k = got_valid link (first_in (slice_get f.links link)) f refl k
+part_valid link Nothing f k = k
 
-host_lawful : (f : Fabric) (n : ℕ) → LawfulIn f → LawfulIn (host_moves f n)
-host_lawful f zero k = k
-host_lawful f (suc n) k = let g = host_moves f n in part_lawful n (part_at (slice_get g.rows n)) g (host_lawful f n k)
+host_valid : (f : Fabric) (n : ℕ) → IsValidIn f → IsValidIn (host_moves f n)
+host_valid f zero k = k
+host_valid f (suc n) k = let g = host_moves f n in part_valid n (part_at (slice_get g.rows n)) g (host_valid f n k)
 
 -- the step of the devices
 
 KeepsLaw : Fabric → Fabric → Type 0
-KeepsLaw f g = LawfulIn f → LawfulIn g
+KeepsLaw f g = IsValidIn f → IsValidIn g
 
 law_joins : Joins KeepsLaw
 unfolding KeepsLaw
@@ -144,40 +144,40 @@ unfolding KeepsLaw
 law_parts cores = record {
   come = λ f k. k;
   devices = λ f d k. k;
-  byte = λ f uart byte k. entered_lawful no_core 0 (Left uart byte) f tt k;
+  byte = λ f uart byte k. entered_valid no_core 0 (Left uart byte) f tt k;
   latch = λ core f k.
       let new = line_driven f core in
       let old = or_low (slice_get f.lines core) in
-      off_lawful core (acts_of (slice_get cores core)) (line_change new old) f (change_off new old) k;
+      off_valid core (acts_of (slice_get cores core)) (line_change new old) f (change_off new old) k;
 }
 
 -- each step
 
-pub step_lawful : (w v : World) (e : Event) → Step w e v → LawfulIn w.fabric → LawfulIn v.fabric
+pub step_valid : (w v : World) (e : Event) → Step w e v → IsValidIn w.fabric → IsValidIn v.fabric
 unfolding KeepsLaw
-step_lawful w v Devices h k = subst (λ (v : World). LawfulIn v.fabric) (sym h) (devices_keep KeepsLaw w.cores law_joins (law_parts w.cores) w.fabric k)
-step_lawful w v Host h k = subst (λ (v : World). LawfulIn v.fabric) (sym h) (host_lawful w.fabric (length w.fabric.rows) k)
-step_lawful w v (Tick core) h k = tick_lawful core (due h.was.view (shown w.fabric core)) h.was w.fabric h.is v.fabric refl h.may k
-step_lawful w v Next h k = subst (λ (v : World). LawfulIn v.fabric) (sym h) k
+step_valid w v Devices h k = subst (λ (v : World). IsValidIn v.fabric) (sym h) (devices_keep KeepsLaw w.cores law_joins (law_parts w.cores) w.fabric k)
+step_valid w v Host h k = subst (λ (v : World). IsValidIn v.fabric) (sym h) (host_valid w.fabric (length w.fabric.rows) k)
+step_valid w v (Tick core) h k = tick_valid core (due h.was.view (shown w.fabric core)) h.was w.fabric h.is v.fabric refl h.may k
+step_valid w v Next h k = subst (λ (v : World). IsValidIn v.fabric) (sym h) k
 
-pub steps_lawful : (w v : World) (es : List Event) → Steps w es v → LawfulIn w.fabric → LawfulIn v.fabric
-steps_lawful w v [] h k = subst (λ (v : World). LawfulIn v.fabric) (sym h) k
-steps_lawful w v (e ∷ es) h k = steps_lawful h.0 v es h.2 (step_lawful w h.0 e h.1 k)
+pub steps_valid : (w v : World) (es : List Event) → Steps w es v → IsValidIn w.fabric → IsValidIn v.fabric
+steps_valid w v [] h k = subst (λ (v : World). IsValidIn v.fabric) (sym h) k
+steps_valid w v (e ∷ es) h k = steps_valid h.0 v es h.2 (step_valid w h.0 e h.1 k)
 
 -- rows never change
 pub steps_rows : (w v : World) (es : List Event) → Steps w es v → v.fabric.rows ≡ w.fabric.rows
 steps_rows w v [] h = ap (λ (x : World). x.fabric.rows) h
 steps_rows w v (e ∷ es) h = steps_rows h.0 v es h.2 ∙ (step_kept w h.0 e h.1).rows
 
-by_fields : (rows first : List LinkRow) (links : List Channel) (journal : List Entry) → first ≡ rows → links ≡ map (λ (r : LinkRow). empty r.depth) rows → journal ≡ [] → Lawful first links journal
-by_fields rows first links journal r l j = rw (r, l, j) (start_lawful rows)
+by_fields : (rows first : List LinkRow) (links : List Channel) (journal : List Entry) → first ≡ rows → links ≡ map (λ (r : LinkRow). empty r.depth) rows → journal ≡ [] → IsValid first links journal
+by_fields rows first links journal r l j = rw (r, l, j) (start_valid rows)
 
-pub start_lawful_in : (b : BoardFile) (views : List View) (inputs : Inputs) (w : World) → Start b views inputs w → LawfulIn w.fabric
-start_lawful_in b views inputs w s = by_fields b.links w.fabric.rows w.fabric.links w.fabric.journal s.has_rows s.links s.journal
+pub start_valid_in : (b : BoardFile) (views : List View) (inputs : Inputs) (w : World) → Start b views inputs w → IsValidIn w.fabric
+start_valid_in b views inputs w s = by_fields b.links w.fabric.rows w.fabric.links w.fabric.journal s.has_rows s.links s.journal
 
 pub link_law_holds : LinkLawHolds
 link_law_holds = record {
   law = λ b views inputs w r.
-      let all = steps_lawful r.first w r.events r.ran (start_lawful_in b views inputs r.first r.began) in
+      let all = steps_valid r.first w r.events r.ran (start_valid_in b views inputs r.first r.began) in
       subst (λ rows. LinkLaw rows w.fabric.journal) (steps_rows r.first w r.events r.ran ∙ r.began.has_rows) all.law;
 }

@@ -6,18 +6,18 @@ use Rattle.run_journal.specs.declared.entry.Entry.{Entry}
 use Rattle.run_journal.specs.declared.entry.What.TheVariants.{Got, Sent, Seen, Room, Missed, HostSent, HostGot}
 use Rattle.journal_laws.specs.LinkLaw.{LinkLaw, MayStand}
 use Rattle.journal_laws.specs.LinkTests.{LinkLawIsTested, by_core, file_link, host_item, item, one_link, two_items, waits_get, waits_put}
-use Rattle.journal_laws.proofs.Links.{Lawful, entry_lawful, start_lawful}
+use Rattle.journal_laws.proofs.Links.{IsValid, entry_valid, start_valid}
 
 -- a journal of which each entry stands, the last one first
-record IsLawful (rows : List LinkRow) (journal : List Entry) : Type 0 where
+record IsValidJournal (rows : List LinkRow) (journal : List Entry) : Type 0 where
   links : List _
-  lawful : Lawful rows links journal
+  valid : IsValid rows links journal
 
-begins : (rows : List LinkRow) → IsLawful rows []
-begins rows = record { links = _; lawful = start_lawful rows }
+begins : (rows : List LinkRow) → IsValidJournal rows []
+begins rows = record { links = _; valid = start_valid rows }
 
-goes_on : (rows : List LinkRow) (journal : List Entry) (e : Entry) → IsLawful rows journal → MayStand rows journal e.core e.what → IsLawful rows (journal ++ e ∷ [])
-goes_on rows journal e k s = record { links = _; lawful = entry_lawful rows k.links journal e s k.lawful }
+goes_on : (rows : List LinkRow) (journal : List Entry) (e : Entry) → IsValidJournal rows journal → MayStand rows journal e.core e.what → IsValidJournal rows (journal ++ e ∷ [])
+goes_on rows journal e k s = record { links = _; valid = entry_valid rows k.links journal e s k.valid }
 
 goes_through : LinkLaw (one_link 2) two_items
 goes_through =
@@ -31,14 +31,14 @@ goes_through =
     let g = goes_on rows _ (by_core 1 (Seen 3 (item 6))) f refl in
     let h = goes_on rows _ (by_core 1 (Got 3 (item 6))) g refl in
     let i = goes_on rows _ (by_core 1 (Missed 3 false)) h refl in
-    i.lawful.law
+    i.valid.law
 
 comes_from_host : LinkLaw file_link host_item
 comes_from_host =
     let a = goes_on file_link _ (by_core 0 waits_get) (begins file_link) refl in
     let b = goes_on file_link _ (by_core 65535 (HostSent 0 (item 7))) a (omega arith) in
     let c = goes_on file_link _ (by_core 0 (Got 3 (item 7))) b refl in
-    c.lawful.law
+    c.valid.law
 
 word_in : Option Item → ℕ
 word_in None = 0

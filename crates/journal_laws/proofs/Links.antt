@@ -14,7 +14,7 @@ use Rattle.board_machine.specs.Places.{touch}
 use Rattle.board_machine.specs.Fabric.{changed, channel_at, first_in, link_from, link_to, links_after, room_in}
 use Rattle.board_machine.proofs.Lists.{slice_get_set_same, slice_get_set_other}
 use Rattle.journal_laws.specs.Progress.{as_one}
-use Rattle.journal_laws.specs.LinkLaw.{HasFirst, HasRoom, IsShut, LinkLaw, LinksFit, MayStand, depth_of, holds, is_link, link_told, put_by, put_into, taken_from, takes_from}
+use Rattle.journal_laws.specs.LinkLaw.{HasFirst, HasRoom, IsShut, LinkLaw, LinksFit, MayStand, depth_of, holds, is_link, link_recorded, put_by, put_into, taken_from, takes_from}
 use Rattle.journal_laws.proofs.Lists.{map_some, map_none, split_more, split_at_more, no_split, no_split_at, one_or_none, filter_map_more, filter_more}
 
 pub record Linked (rows : List LinkRow) (links : List Channel) (journal : List Entry) : Type 0 where
@@ -72,7 +72,7 @@ has_one [] (suc n) x h = cc
 has_one (y ∷ xs) zero x h = omega arith
 has_one (y ∷ xs) (suc n) x h = let i = has_one xs n x h in omega (arith, i)
 
-take_demands : (rows : List LinkRow) (journal : List Entry) (l : ℕ) (item : Item) (o : Option ℕ) → HasFirst item (link_told rows journal o) → Demands rows journal l None (is_link l o)
+take_demands : (rows : List LinkRow) (journal : List Entry) (l : ℕ) (item : Item) (o : Option ℕ) → HasFirst item (link_recorded rows journal o) → Demands rows journal l None (is_link l o)
 take_demands rows journal l item None h = cc
 take_demands rows journal l item (Some k) h = record {
   puts = λ x e. cc;
@@ -80,7 +80,7 @@ take_demands rows journal l item (Some k) h = record {
   one = λ x e. cc;
 }
 
-put_demands : (rows : List LinkRow) (journal : List Entry) (l : ℕ) (item : Item) (o : Option ℕ) (t : Bool) → is_link l o ≡ t → HasRoom (link_told rows journal o) → Demands rows journal l (cond {A = Option Item} t (Some item) None) false
+put_demands : (rows : List LinkRow) (journal : List Entry) (l : ℕ) (item : Item) (o : Option ℕ) (t : Bool) → is_link l o ≡ t → HasRoom (link_recorded rows journal o) → Demands rows journal l (cond {A = Option Item} t (Some item) None) false
 put_demands rows journal l item o false i h = record { puts = λ x e. cc; takes = λ e. cc; one = λ x e. refl }
 put_demands rows journal l item None true i h = cc
 put_demands rows journal l item (Some k) true i h = record {
@@ -184,12 +184,12 @@ entry_linked rows links journal e s k =
     no_more rows journal e l (Some x) p n z d = let i = d.puts x refl in absurd (omega (arith, i, z))
 
 -- the law goes on with an entry that stands
-pub record Lawful (rows : List LinkRow) (links : List Channel) (journal : List Entry) : Type 0 where
+pub record IsValid (rows : List LinkRow) (links : List Channel) (journal : List Entry) : Type 0 where
   pub linked : Linked rows links journal
   pub law : LinkLaw rows journal
 
-pub entry_lawful : (rows : List LinkRow) (links : List Channel) (journal : List Entry) (e : Entry) → MayStand rows journal e.core e.what → Lawful rows links journal → Lawful rows (links_after rows e.core e.what links) (journal ++ e ∷ [])
-entry_lawful rows links journal e s k =
+pub entry_valid : (rows : List LinkRow) (links : List Channel) (journal : List Entry) (e : Entry) → MayStand rows journal e.core e.what → IsValid rows links journal → IsValid rows (links_after rows e.core e.what links) (journal ++ e ∷ [])
+entry_valid rows links journal e s k =
     let more = entry_linked rows links journal e s k.linked in
     record {
       linked = more;
@@ -210,8 +210,8 @@ empty_items rows l c h =
     let r = map_some (λ (r : LinkRow). empty r.depth) (slice_get rows l) c (sym (slice_get-map (λ (r : LinkRow). empty r.depth) rows l) ∙ h) in
     (ap (λ (c : Channel). c.items) (sym r.2), ap (λ (c : Channel). c.depth) (sym r.2) ∙ ap depth_of (sym r.1))
 
-pub start_lawful : (rows : List LinkRow) → Lawful rows (map (λ (r : LinkRow). empty r.depth) rows) []
-start_lawful rows = record {
+pub start_valid : (rows : List LinkRow) → IsValid rows (map (λ (r : LinkRow). empty r.depth) rows) []
+start_valid rows = record {
   linked = record {
     items = λ l c h. (empty_items rows l c h).0;
     depth = λ l c h. (empty_items rows l c h).1;
@@ -230,40 +230,40 @@ none_first zero o h = h
 none_first (suc n) o h = h
 
 -- what the links show is what the journal tells of them
-shown_told : (rows : List LinkRow) (links : List Channel) (journal : List Entry) (l : ℕ) (c : Option Channel) → slice_get links l ≡ c → Linked rows links journal → (first_in c ≡ slice_get (holds rows l journal) 0) × (room_in c ≡ nat_lt (length (holds rows l journal)) (depth_of (slice_get rows l)))
-shown_told rows links journal l (Some c) h k = (rw (k.items l c h) refl, rw (k.items l c h, k.depth l c h) refl)
-shown_told rows links journal l None h k =
+shown_recorded : (rows : List LinkRow) (links : List Channel) (journal : List Entry) (l : ℕ) (c : Option Channel) → slice_get links l ≡ c → Linked rows links journal → (first_in c ≡ slice_get (holds rows l journal) 0) × (room_in c ≡ nat_lt (length (holds rows l journal)) (depth_of (slice_get rows l)))
+shown_recorded rows links journal l (Some c) h k = (rw (k.items l c h) refl, rw (k.items l c h, k.depth l c h) refl)
+shown_recorded rows links journal l None h k =
     let n = k.beyond l h in
     (rw n.0 (none_first (taken_from rows l journal) None refl), rw n.1 (sym (le-ltb (length (holds rows l journal)) 0 (omega arith))))
 
-pub first_told : (rows : List LinkRow) (links : List Channel) (journal : List Entry) (o : Option ℕ) → Linked rows links journal → first_in (channel_at links o) ≡ slice_get (link_told rows journal o).items 0
-first_told rows links journal None k = refl
-first_told rows links journal (Some l) k = (shown_told rows links journal l (slice_get links l) refl k).0
+pub first_recorded : (rows : List LinkRow) (links : List Channel) (journal : List Entry) (o : Option ℕ) → Linked rows links journal → first_in (channel_at links o) ≡ slice_get (link_recorded rows journal o).items 0
+first_recorded rows links journal None k = refl
+first_recorded rows links journal (Some l) k = (shown_recorded rows links journal l (slice_get links l) refl k).0
 
-pub room_told : (rows : List LinkRow) (links : List Channel) (journal : List Entry) (o : Option ℕ) → Linked rows links journal → room_in (channel_at links o) ≡ nat_lt (length (link_told rows journal o).items) (link_told rows journal o).depth
-room_told rows links journal None k = refl
-room_told rows links journal (Some l) k = (shown_told rows links journal l (slice_get links l) refl k).1
+pub room_recorded : (rows : List LinkRow) (links : List Channel) (journal : List Entry) (o : Option ℕ) → Linked rows links journal → room_in (channel_at links o) ≡ nat_lt (length (link_recorded rows journal o).items) (link_recorded rows journal o).depth
+room_recorded rows links journal None k = refl
+room_recorded rows links journal (Some l) k = (shown_recorded rows links journal l (slice_get links l) refl k).1
 
 -- an entry that agrees with what the links show stands
-pub stands_first : (rows : List LinkRow) (links : List Channel) (journal : List Entry) (o : Option ℕ) (item : Item) → Linked rows links journal → first_in (channel_at links o) ≡ Some item → HasFirst item (link_told rows journal o)
-stands_first rows links journal o item k h = sym (first_told rows links journal o k) ∙ h
+pub stands_first : (rows : List LinkRow) (links : List Channel) (journal : List Entry) (o : Option ℕ) (item : Item) → Linked rows links journal → first_in (channel_at links o) ≡ Some item → HasFirst item (link_recorded rows journal o)
+stands_first rows links journal o item k h = sym (first_recorded rows links journal o k) ∙ h
 
-pub stands_room : (rows : List LinkRow) (links : List Channel) (journal : List Entry) (o : Option ℕ) → Linked rows links journal → room_in (channel_at links o) ≡ true → HasRoom (link_told rows journal o)
-stands_room rows links journal o k h = ltb-true _ _ (sym (room_told rows links journal o k) ∙ h)
+pub stands_room : (rows : List LinkRow) (links : List Channel) (journal : List Entry) (o : Option ℕ) → Linked rows links journal → room_in (channel_at links o) ≡ true → HasRoom (link_recorded rows journal o)
+stands_room rows links journal o k h = ltb-true _ _ (sym (room_recorded rows links journal o k) ∙ h)
 
 no_first : (xs : List Item) → slice_get xs 0 ≡ None → xs ≡ []
 no_first [] h = refl
 no_first (x ∷ xs) h = cc
 
 pub stands_empty : (rows : List LinkRow) (links : List Channel) (journal : List Entry) (core port : ℕ) → Linked rows links journal → first_in (channel_at links (link_to rows core port)) ≡ None → IsShut rows journal core port false
-stands_empty rows links journal core port k h = no_first _ (sym (first_told rows links journal (link_to rows core port) k) ∙ h)
+stands_empty rows links journal core port k h = no_first _ (sym (first_recorded rows links journal (link_to rows core port) k) ∙ h)
 
-told_fits : (rows : List LinkRow) (links : List Channel) (journal : List Entry) (o : Option ℕ) → Linked rows links journal → length (link_told rows journal o).items ≤ (link_told rows journal o).depth
-told_fits rows links journal None k = omega arith
-told_fits rows links journal (Some l) k = k.fits l
+recorded_fits : (rows : List LinkRow) (links : List Channel) (journal : List Entry) (o : Option ℕ) → Linked rows links journal → length (link_recorded rows journal o).items ≤ (link_recorded rows journal o).depth
+recorded_fits rows links journal None k = omega arith
+recorded_fits rows links journal (Some l) k = k.fits l
 
 pub stands_full : (rows : List LinkRow) (links : List Channel) (journal : List Entry) (core port : ℕ) → Linked rows links journal → room_in (channel_at links (link_from rows core port)) ≡ false → IsShut rows journal core port true
 stands_full rows links journal core port k h =
-    let a = ltb-false _ _ (sym (room_told rows links journal (link_from rows core port) k) ∙ h) in
-    let b = told_fits rows links journal (link_from rows core port) k in
+    let a = ltb-false _ _ (sym (room_recorded rows links journal (link_from rows core port) k) ∙ h) in
+    let b = recorded_fits rows links journal (link_from rows core port) k in
     omega (arith, a, b)

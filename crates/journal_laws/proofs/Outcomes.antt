@@ -231,12 +231,12 @@ pub record Gone (v : View) (hopes : Hopes) : Type 0 where
   pub home : is_home (want_of v) ≡ true
   pub shut : is_closed (bare v.arch) hopes ≡ true
 
-abbrev Tells : View → Shown → Due → Type 0
-Tells v s (Does d) = SaysRest d
-Tells v s (Waits port full) = access_of (want_of v) ≡ Some (record { port = port; full = full })
-Tells v s Sleeps = v.arch.asleep ≡ true
-Tells v s Ends = Gone v s.hopes
-Tells v s (Stops cause) = v.arch.stopped ≡ Some cause
+abbrev Determines : View → Shown → Due → Type 0
+Determines v s (Does d) = SaysRest d
+Determines v s (Waits port full) = access_of (want_of v) ≡ Some (record { port = port; full = full })
+Determines v s Sleeps = v.arch.asleep ≡ true
+Determines v s Ends = Gone v s.hopes
+Determines v s (Stops cause) = v.arch.stopped ≡ Some cause
 
 leaves_says : (v : View) (d : Deed) → IsAwake v → Leaves (bare v.arch) d → SaysRest d
 leaves_says v d w (stays h) = record {
@@ -252,31 +252,31 @@ leaves_says v d w (halts cause h k) = record {
   stopped = λ x. (cause, h);
 }
 
-item_tells : (v : View) (s : Shown) (port : ℕ) (item : Item → Deed) (empty : Option Deed) (o : Option Item) → IsAwake v → want_of v ≡ Gets port item empty → WantLeaves (bare v.arch) (Gets port item empty) → Tells v s (by_item port item empty o)
-item_tells v s port item empty (Some x) w e h = leaves_says v (item x) w (h.0 x)
-item_tells v s port item (Some d) None w e h = leaves_says v d w (h.1 d refl)
-item_tells v s port item None None w e h = ap access_of e
+item_determines : (v : View) (s : Shown) (port : ℕ) (item : Item → Deed) (empty : Option Deed) (o : Option Item) → IsAwake v → want_of v ≡ Gets port item empty → WantLeaves (bare v.arch) (Gets port item empty) → Determines v s (by_item port item empty o)
+item_determines v s port item empty (Some x) w e h = leaves_says v (item x) w (h.0 x)
+item_determines v s port item (Some d) None w e h = leaves_says v d w (h.1 d refl)
+item_determines v s port item None None w e h = ap access_of e
 
-room_tells : (v : View) (s : Shown) (port : ℕ) (room : Deed) (full : Option Deed) (b : Bool) → IsAwake v → want_of v ≡ Puts port room full → WantLeaves (bare v.arch) (Puts port room full) → Tells v s (by_room port room full b)
-room_tells v s port room full true w e h = leaves_says v room w h.0
-room_tells v s port room (Some d) false w e h = leaves_says v d w (h.1 d refl)
-room_tells v s port room None false w e h = ap access_of e
+room_determines : (v : View) (s : Shown) (port : ℕ) (room : Deed) (full : Option Deed) (b : Bool) → IsAwake v → want_of v ≡ Puts port room full → WantLeaves (bare v.arch) (Puts port room full) → Determines v s (by_room port room full b)
+room_determines v s port room full true w e h = leaves_says v room w h.0
+room_determines v s port room (Some d) false w e h = leaves_says v d w (h.1 d refl)
+room_determines v s port room None false w e h = ap access_of e
 
-home_tells : (v : View) (s : Shown) (d : Deed) (b : Bool) → IsAwake v → want_of v ≡ Homes d → Leaves (bare v.arch) d → is_closed (bare v.arch) s.hopes ≡ b → Tells v s (if b then Ends else Does d)
-home_tells v s d true w e h c = record { awake = w; home = ap is_home e; shut = c }
-home_tells v s d false w e h c = leaves_says v d w h
+home_determines : (v : View) (s : Shown) (d : Deed) (b : Bool) → IsAwake v → want_of v ≡ Homes d → Leaves (bare v.arch) d → is_closed (bare v.arch) s.hopes ≡ b → Determines v s (if b then Ends else Does d)
+home_determines v s d true w e h c = record { awake = w; home = ap is_home e; shut = c }
+home_determines v s d false w e h c = leaves_says v d w h
 
-reply_tells : (v : View) (s : Shown) (x : Want) → IsAwake v → want_of v ≡ x → WantLeaves (bare v.arch) x → Tells v s (reply (bare v.arch) x s)
-reply_tells v s (Goes d) w e h = leaves_says v d w h
-reply_tells v s (Homes d) w e h = home_tells v s d (is_closed (bare v.arch) s.hopes) w e h refl
-reply_tells v s (Gets port item empty) w e h = item_tells v s port item empty (s.first port) w e h
-reply_tells v s (Puts port room full) w e h = room_tells v s port room full (s.room port) w e h
-reply_tells v s (Reads addr answer) w e h = leaves_says v (answer (s.bus_word addr)) w (h (s.bus_word addr))
-reply_tells v s (Writes addr word answer) w e h = leaves_says v (answer (s.bus_takes addr word)) w (h (s.bus_takes addr word))
+reply_determines : (v : View) (s : Shown) (x : Want) → IsAwake v → want_of v ≡ x → WantLeaves (bare v.arch) x → Determines v s (reply (bare v.arch) x s)
+reply_determines v s (Goes d) w e h = leaves_says v d w h
+reply_determines v s (Homes d) w e h = home_determines v s d (is_closed (bare v.arch) s.hopes) w e h refl
+reply_determines v s (Gets port item empty) w e h = item_determines v s port item empty (s.first port) w e h
+reply_determines v s (Puts port room full) w e h = room_determines v s port room full (s.room port) w e h
+reply_determines v s (Reads addr answer) w e h = leaves_says v (answer (s.bus_word addr)) w (h (s.bus_word addr))
+reply_determines v s (Writes addr word answer) w e h = leaves_says v (answer (s.bus_takes addr word)) w (h (s.bus_takes addr word))
 
-awake_tells : (v : View) (s : Shown) (asleep : Bool) → v.arch.asleep ≡ asleep → v.arch.stopped ≡ None → Tells v s (awake (here_of v) (operands_of (here_of v) v.arch.regs) (bare v.arch) v.memory s asleep)
-awake_tells v s true a c = a
-awake_tells v s false a c = reply_tells v s (want_of v) (record { asleep = a; stopped = c }) refl (want_leaves (here_of v) (operands_of (here_of v) v.arch.regs) (bare v.arch) v.memory)
+awake_determines : (v : View) (s : Shown) (asleep : Bool) → v.arch.asleep ≡ asleep → v.arch.stopped ≡ None → Determines v s (awake (here_of v) (operands_of (here_of v) v.arch.regs) (bare v.arch) v.memory s asleep)
+awake_determines v s true a c = a
+awake_determines v s false a c = reply_determines v s (want_of v) (record { asleep = a; stopped = c }) refl (want_leaves (here_of v) (operands_of (here_of v) v.arch.regs) (bare v.arch) v.memory)
 
 take_says : (v : View) (t : Take) → v.arch.stopped ≡ None → SaysRest (takes (bare v.arch) t)
 take_says v t c = record {
@@ -284,26 +284,26 @@ take_says v t c = record {
   stopped = λ x. let z : false ≡ true = ap is_some (sym c) ∙ x in cc;
 }
 
-by_tells : (v : View) (s : Shown) (t : Option Take) (c : Option StopCause) → v.arch.stopped ≡ c → Tells v s (due_by (here_of v) (operands_of (here_of v) v.arch.regs) (bare v.arch) v.memory s t c)
-by_tells v s t (Some cause) c = c
-by_tells v s (Some t) None c = take_says v t c
-by_tells v s None None c = awake_tells v s v.arch.asleep refl c
+by_determines : (v : View) (s : Shown) (t : Option Take) (c : Option StopCause) → v.arch.stopped ≡ c → Determines v s (due_by (here_of v) (operands_of (here_of v) v.arch.regs) (bare v.arch) v.memory s t c)
+by_determines v s t (Some cause) c = c
+by_determines v s (Some t) None c = take_says v t c
+by_determines v s None None c = awake_determines v s v.arch.asleep refl c
 
-due_tells : (v : View) (s : Shown) → Tells v s (due v s)
+due_determines : (v : View) (s : Shown) → Determines v s (due v s)
 unfolding due_with
-due_tells v s = by_tells v s (take_due (here_of v) (bare v.arch) s) v.arch.stopped refl
+due_determines v s = by_determines v s (take_due (here_of v) (bare v.arch) s) v.arch.stopped refl
 
 pub act_says : (v : View) (s : Shown) (deed : Deed) → due v s ≡ Does deed → SaysRest deed
-act_says v s deed e = subst (Tells v s) e (due_tells v s)
+act_says v s deed e = subst (Determines v s) e (due_determines v s)
 
 pub waits_at : (v : View) (s : Shown) (port : ℕ) (full : Bool) → due v s ≡ Waits port full → access_of (want_of v) ≡ Some (record { port = port; full = full })
-waits_at v s port full e = subst (Tells v s) e (due_tells v s)
+waits_at v s port full e = subst (Determines v s) e (due_determines v s)
 
 pub sleeps_asleep : (v : View) (s : Shown) → due v s ≡ Sleeps → v.arch.asleep ≡ true
-sleeps_asleep v s e = subst (Tells v s) e (due_tells v s)
+sleeps_asleep v s e = subst (Determines v s) e (due_determines v s)
 
 pub ends_gone : (v : View) (s : Shown) → due v s ≡ Ends → Gone v s.hopes
-ends_gone v s e = subst (Tells v s) e (due_tells v s)
+ends_gone v s e = subst (Determines v s) e (due_determines v s)
 
 pub stops_stopped : (v : View) (s : Shown) (cause : StopCause) → due v s ≡ Stops cause → v.arch.stopped ≡ Some cause
-stops_stopped v s cause e = subst (Tells v s) e (due_tells v s)
+stops_stopped v s cause e = subst (Determines v s) e (due_determines v s)

@@ -9,7 +9,7 @@ use Rattle.board_file.specs.declared.board.LinkRow.{LinkRow}
 use Rattle.run_journal.specs.declared.entry.Entry.{Entry}
 use Rattle.run_journal.specs.declared.entry.What.{What}
 use Rattle.board_machine.proofs.Lists.{and_false_left, and_false_right}
-use Rattle.journal_laws.specs.Progress.{IsInPace, ProgressBound, as_one, before_tick, by_tick, comes_before, earlier, has, is_own, is_rest, rests_below, rests_in, through_tick, ticks_below, told_of}
+use Rattle.journal_laws.specs.Progress.{IsInPace, ProgressBound, as_one, before_tick, by_tick, comes_before, earlier, has, is_own, is_rest, rests_below, rests_in, through_tick, ticks_below, recorded}
 use Rattle.journal_laws.proofs.Lists.{filter_skips, split_at_more}
 use Rattle.journal_laws.proofs.Truths.{and_both, and_yes, or_cases, or_false, or_left, or_no, or_right}
 
@@ -155,8 +155,8 @@ all_at P (b ∷ bs) later [] x e a = cc
 all_at P (b ∷ bs) later (y ∷ ys) x e a = let i : ys ≡ bs ++ x ∷ later = cc in all_at P bs later ys x i a.1
 
 -- a fold over a core's own entries, with one more
-pub told_more : {X : Type 0} (step : X → What → X) (i : ℕ) (x : X) (journal : List Entry) (e : Entry) → told_of step i x (journal ++ e ∷ []) ≡ cond (e.core == i) (step (told_of step i x journal) e.what) (told_of step i x journal)
-told_more step i x journal e = fold-append (λ x (e : Entry). cond (e.core == i) (step x e.what) x) x journal (e ∷ [])
+pub recorded_more : {X : Type 0} (step : X → What → X) (i : ℕ) (x : X) (journal : List Entry) (e : Entry) → recorded step i x (journal ++ e ∷ []) ≡ cond (e.core == i) (step (recorded step i x journal) e.what) (recorded step i x journal)
+recorded_more step i x journal e = fold-append (λ x (e : Entry). cond (e.core == i) (step x e.what) x) x journal (e ∷ [])
 
 -- an entry of the law, after one more entry of this cycle
 pub in_pace_more : (order : ℕ → List ℕ) (rows : List LinkRow) (first : View) (journal : List Entry) (d e : Entry) → d.cycle ≤ e.cycle → IsInPace order rows first journal d → IsInPace order rows first (journal ++ e ∷ []) d

@@ -25,7 +25,7 @@ use Rattle.journal_laws.specs.Laws.{KeepsPace, ProgressBoundHolds, RanCycles, or
 use Rattle.journal_laws.specs.Progress.{ProgressBound, by_tick, rests_below, ticking, ticks_below}
 use Rattle.journal_laws.proofs.BreaksCome.{all_given, any_kept}
 use Rattle.journal_laws.proofs.Gone.{AreFewer, gone_ends, gone_fewer}
-use Rattle.journal_laws.proofs.LinkRuns.{LawfulIn, start_lawful_in, step_lawful}
+use Rattle.journal_laws.proofs.LinkRuns.{IsValidIn, start_valid_in, step_valid}
 use Rattle.journal_laws.proofs.Lists.{no_split_at}
 use Rattle.journal_laws.proofs.Moves.{Joins, KeepsParts, devices_keep, host_keeps}
 use Rattle.journal_laws.proofs.Orders.{ticks_once, turns_are}
@@ -50,8 +50,8 @@ calm_joins : (order : ℕ → List ℕ) (rows : List LinkRow) (views : List View
 unfolding KeepsCalm
 calm_joins order rows views cores = record { itself = λ f k. k; then = λ f g h a b k. b (a k) }
 
-calm_good : (order : ℕ → List ℕ) (rows : List LinkRow) (views : List View) (w : World) → LawfulIn w.fabric → Calm order rows views w.cores w.fabric → Good order rows views [] w
-calm_good order rows views w l k = record { lawful = l; has_rows = k.has_rows; past = k.past; law = k.law; pace = k.pace }
+calm_good : (order : ℕ → List ℕ) (rows : List LinkRow) (views : List View) (w : World) → IsValidIn w.fabric → Calm order rows views w.cores w.fabric → Good order rows views [] w
+calm_good order rows views w l k = record { valid = l; has_rows = k.has_rows; past = k.past; law = k.law; pace = k.pace }
 
 good_calm : (order : ℕ → List ℕ) (rows : List LinkRow) (views : List View) (w : World) → Good order rows views [] w → Calm order rows views w.cores w.fabric
 good_calm order rows views w g = record { has_rows = g.has_rows; past = g.past; law = g.law; pace = g.pace }
@@ -156,13 +156,13 @@ host_calm order rows views cores f n =
 devices_good : (order : ℕ → List ℕ) (rows : List LinkRow) (views : List View) (w v : World) → Step w Devices v → Good order rows views [] w → Good order rows views [] v
 unfolding KeepsCalm
 devices_good order rows views w v h g =
-    let l = step_lawful w v Devices h g.lawful in
+    let l = step_valid w v Devices h g.valid in
     calm_good order rows views v l (subst (λ (x : World). Calm order rows views x.cores x.fabric) (sym h) (devices_keep (KeepsCalm order rows views w.cores) w.cores (calm_joins order rows views w.cores) (calm_parts order rows views w.cores) w.fabric (good_calm order rows views w g)))
 
 host_good : (order : ℕ → List ℕ) (rows : List LinkRow) (views : List View) (w v : World) → Step w Host v → Good order rows views [] w → Good order rows views [] v
 unfolding KeepsCalm
 host_good order rows views w v h g =
-    let l = step_lawful w v Host h g.lawful in
+    let l = step_valid w v Host h g.valid in
     calm_good order rows views v l (subst (λ (x : World). Calm order rows views x.cores x.fabric) (sym h) (host_calm order rows views w.cores w.fabric (length w.fabric.rows) (good_calm order rows views w g)))
 
 next_pace : (order : ℕ → List ℕ) (rows : List LinkRow) (first : View) (i c : ℕ) (journal : List Entry) (s : CoreAt) (hopes : Hopes) → Pace order rows first i c (order c) journal s hopes → Pace order rows first i (c + 1) [] journal s hopes
@@ -181,7 +181,7 @@ next_pace order rows first i c journal s hopes p = subst (λ c. Pace order rows 
 
 next_good : (order : ℕ → List ℕ) (rows : List LinkRow) (views : List View) (w v : World) → Step w Next v → Good order rows views (order w.fabric.cycle) w → Good order rows views [] v
 next_good order rows views w v h g = subst (Good order rows views []) (sym h) (record {
-  lawful = g.lawful;
+  valid = g.valid;
   has_rows = g.has_rows;
   past = all_imply (is_past w.fabric.cycle (order w.fabric.cycle)) (is_past (w.fabric.cycle + 1) []) w.fabric.journal (past_next w.fabric.cycle (order w.fabric.cycle)) g.past;
   law = g.law;
@@ -237,7 +237,7 @@ start_pace order rows first i c journal s hopes z j a k l v = subst (λ c. Pace 
 
 start_good : (order : ℕ → List ℕ) (b : BoardFile) (views : List View) (inputs : Inputs) (w : World) → Start b views inputs w → Good order b.links views [] w
 start_good order b views inputs w s = record {
-  lawful = start_lawful_in b views inputs w s;
+  valid = start_valid_in b views inputs w s;
   has_rows = s.has_rows;
   past = subst (AllByRecursion (λ e. is_past w.fabric.cycle [] e ≡ true)) (sym s.journal) tt;
   law = record { each = λ before later e first q t v. absurd (no_split_at before later e (sym s.journal ∙ q)) };

@@ -28,7 +28,7 @@ use Rattle.board_machine.proofs.Tells.{which}
 use Rattle.journal_laws.specs.Progress.{ProgressBound, as_one, by_tick, has, is_rest, is_shut, rests_below, rests_in, ticks_below}
 use Rattle.journal_laws.proofs.Asking.{wait_shows}
 use Rattle.journal_laws.proofs.Gone.{gone_acts, gone_waits}
-use Rattle.journal_laws.proofs.LinkRuns.{LawfulIn, none_stands, step_lawful}
+use Rattle.journal_laws.proofs.LinkRuns.{IsValidIn, none_stands, step_valid}
 use Rattle.journal_laws.proofs.Outcomes.{Gone, SaysRest, act_says, ends_gone, sleeps_asleep, stops_stopped, waits_at}
 use Rattle.journal_laws.proofs.Pace.{all_imply, has_other, is_past, past_more}
 use Rattle.journal_laws.proofs.Paces.{Pace, kept_more, no_wait}
@@ -203,7 +203,7 @@ waits order rows i done rest was before is later on false t d shut k f =
       bound = inr (λ first p. entry_bound order rows first i before.cycle done rest before.journal was (hopes_at before i) t never p);
     })
 
-own_tick : (order : ℕ → List ℕ) (rows : List LinkRow) (i : ℕ) (done rest : List ℕ) (d : Due) (was : CoreAt) (before : Fabric) (is : CoreAt) (later : Fabric) → AtTick order i before.cycle done rest before.journal → LawfulIn before → before.rows ≡ rows → due was.view (shown before i) ≡ d → TickMay i d was before is later → OwnTick order rows i done rest was before is later
+own_tick : (order : ℕ → List ℕ) (rows : List LinkRow) (i : ℕ) (done rest : List ℕ) (d : Due) (was : CoreAt) (before : Fabric) (is : CoreAt) (later : Fabric) → AtTick order i before.cycle done rest before.journal → IsValidIn before → before.rows ≡ rows → due was.view (shown before i) ≡ d → TickMay i d was before is later → OwnTick order rows i done rest was before is later
 own_tick order rows i done rest (Does deed) was before is later t law r d (inl a) = does order rows i done rest was before is later deed t d a
 own_tick order rows i done rest (Does deed) was before is later t law r d (inr f) = fills order rows i done rest was before is later t f
 own_tick order rows i done rest (Waits port full) was before is later t law r d (inl a) =
@@ -217,7 +217,7 @@ own_tick order rows i done rest (Stops cause) was before is later t law r d a = 
 
 -- what holds between two events of a cycle, where the cores of `done` have ticked
 pub record Good (order : ℕ → List ℕ) (rows : List LinkRow) (views : List View) (done : List ℕ) (w : World) : Type 0 where
-  pub lawful : LawfulIn w.fabric
+  pub valid : IsValidIn w.fabric
   pub has_rows : w.fabric.rows ≡ rows
   pub past : AllByRecursion (λ e. is_past w.fabric.cycle done e ≡ true) w.fabric.journal
   pub law : ProgressBound order rows views w.fabric.journal
@@ -259,10 +259,10 @@ pace_at order rows views i done rest w v h k s first t o g q (inr p) =
 pub tick_good : (order : ℕ → List ℕ) (rows : List LinkRow) (views : List View) (i : ℕ) (done rest : List ℕ) (w v : World) → order w.fabric.cycle ≡ done ++ i ∷ rest → has i done ≡ false → TickStep i w v → Good order rows views done w → (v.fabric.cycle ≡ w.fabric.cycle) × Good order rows views (done ++ i ∷ []) v
 tick_good order rows views i done rest w v cut fresh h g =
     let t : AtTick order i w.fabric.cycle done rest w.fabric.journal = record { cut = cut; fresh = fresh; past = g.past } in
-    let o = own_tick order rows i done rest (due h.was.view (shown w.fabric i)) h.was w.fabric h.is v.fabric t g.lawful g.has_rows refl h.may in (
+    let o = own_tick order rows i done rest (due h.was.view (shown w.fabric i)) h.was w.fabric h.is v.fabric t g.valid g.has_rows refl h.may in (
       o.out.cycle,
       record {
-        lawful = step_lawful w v (Tick i) h g.lawful;
+        valid = step_valid w v (Tick i) h g.valid;
         has_rows = o.out.rows ∙ g.has_rows;
         past = rw (o.out.cycle, o.out.journal) (past_list w.fabric.cycle i h.was.acts done w.fabric.journal o.es (all_imply (is_past w.fabric.cycle done) (is_past w.fabric.cycle (done ++ i ∷ [])) w.fabric.journal (past_more w.fabric.cycle done i) g.past));
         law = subst (ProgressBound order rows views) (sym o.out.journal) (law_with order rows views i done w h.was o.es h.there g o.bound);

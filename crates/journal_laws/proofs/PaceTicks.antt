@@ -17,10 +17,10 @@ use Rattle.board_machine.specs.Fabric.{entry_of, kept_wait}
 use Rattle.board_machine.specs.World.{CoreAt}
 use Rattle.machine_laws.specs.Holding.{want_of}
 use Rattle.journal_laws.specs.LinkLaw.{IsShut}
-use Rattle.journal_laws.specs.Progress.{ProgressBound, as_one, asleep_by, asleep_told, before_tick, by_tick, comes_before, has, is_own, is_rest, is_shut, kept_by, rests_below, rests_in, stopped_by, stopped_told, through_tick, ticks_below, wait_told, waits_still}
+use Rattle.journal_laws.specs.Progress.{ProgressBound, as_one, asleep_by, asleep_recorded, before_tick, by_tick, comes_before, has, is_own, is_rest, is_shut, kept_by, rests_below, rests_in, stopped_by, stopped_recorded, through_tick, ticks_below, wait_recorded, waits_still}
 use Rattle.journal_laws.proofs.Lists.{filter_more, filter_skips}
 use Rattle.journal_laws.proofs.Outcomes.{Gone, access_of}
-use Rattle.journal_laws.proofs.Pace.{all_imply, all_more, filter_all, has_end, has_mid, is_past, law_more, own_is, own_not_before, past_before, past_entry, rests_late, tick_entry_late, told_more}
+use Rattle.journal_laws.proofs.Pace.{all_imply, all_more, filter_all, has_end, has_mid, is_past, law_more, own_is, own_not_before, past_before, past_entry, rests_late, tick_entry_late, recorded_more}
 use Rattle.journal_laws.proofs.Paces.{Pace, WaitsAt, kept_more, other_core, other_pace}
 use Rattle.journal_laws.proofs.Truths.{and_yes, or_left, or_right}
 
@@ -55,26 +55,26 @@ own_rest order rows first i c act done rest journal on t r =
 
 -- why a tick rests
 
-pub asleep_rests : (rows : List LinkRow) (first : View) (i : ℕ) (journal : List Entry) → asleep_told first i journal ≡ true → rests_in rows first i journal journal ≡ true
-asleep_rests rows first i journal h = or_left (asleep_told first i journal && asleep_told first i journal) (stopped_told first i journal || waits_still rows journal i (wait_told i journal)) (and_yes _ _ h h)
+pub asleep_rests : (rows : List LinkRow) (first : View) (i : ℕ) (journal : List Entry) → asleep_recorded first i journal ≡ true → rests_in rows first i journal journal ≡ true
+asleep_rests rows first i journal h = or_left (asleep_recorded first i journal && asleep_recorded first i journal) (stopped_recorded first i journal || waits_still rows journal i (wait_recorded i journal)) (and_yes _ _ h h)
 
-pub stopped_rests : (rows : List LinkRow) (first : View) (i : ℕ) (journal : List Entry) → stopped_told first i journal ≡ true → rests_in rows first i journal journal ≡ true
-stopped_rests rows first i journal h = or_right (asleep_told first i journal && asleep_told first i journal) (stopped_told first i journal || waits_still rows journal i (wait_told i journal)) (or_left _ (waits_still rows journal i (wait_told i journal)) h)
+pub stopped_rests : (rows : List LinkRow) (first : View) (i : ℕ) (journal : List Entry) → stopped_recorded first i journal ≡ true → rests_in rows first i journal journal ≡ true
+stopped_rests rows first i journal h = or_right (asleep_recorded first i journal && asleep_recorded first i journal) (stopped_recorded first i journal || waits_still rows journal i (wait_recorded i journal)) (or_left _ (waits_still rows journal i (wait_recorded i journal)) h)
 
-waits_rest : (rows : List LinkRow) (first : View) (i : ℕ) (before through : List Entry) (on : WaitOn) → wait_told i through ≡ Some on → is_shut rows before i on.port on.full ≡ true → rests_in rows first i before through ≡ true
+waits_rest : (rows : List LinkRow) (first : View) (i : ℕ) (before through : List Entry) (on : WaitOn) → wait_recorded i through ≡ Some on → is_shut rows before i on.port on.full ≡ true → rests_in rows first i before through ≡ true
 waits_rest rows first i before through on k h =
-    or_right (asleep_told first i before && asleep_told first i through) (stopped_told first i before || waits_still rows before i (wait_told i through))
-    (or_right (stopped_told first i before) (waits_still rows before i (wait_told i through)) (ap (waits_still rows before i) k ∙ h))
+    or_right (asleep_recorded first i before && asleep_recorded first i through) (stopped_recorded first i before || waits_still rows before i (wait_recorded i through))
+    (or_right (stopped_recorded first i before) (waits_still rows before i (wait_recorded i through)) (ap (waits_still rows before i) k ∙ h))
 
 pub shut_is : (rows : List LinkRow) (journal : List Entry) (i port : ℕ) (full : Bool) → IsShut rows journal i port full → is_shut rows journal i port full ≡ true
-shut_is rows journal i port true h = ap not (le-ltb _ _ (omega (arith, h)))
+shut_is rows journal i port true h = eq-eqb _ _ h
 shut_is rows journal i port false h = eq-eqb _ _ (ap length h)
 
 -- a tick in a wait that is kept
 pub kept_rests : (rows : List LinkRow) (first : View) (i : ℕ) (journal : List Entry) (v : View) (on : WaitOn) → WaitsAt i v journal → access_of (want_of v) ≡ Some on → is_shut rows journal i on.port on.full ≡ true → rests_in rows first i journal journal ≡ true
 kept_rests rows first i journal v on k b h =
     let same : k.on ≡ on = same_Some _ _ (sym k.access ∙ b) in
-    waits_rest rows first i journal journal on (k.told ∙ ap Some same) h
+    waits_rest rows first i journal journal on (k.entry ∙ ap Some same) h
 
 -- the count
 
@@ -143,9 +143,9 @@ pub wait_pace : (order : ℕ → List ℕ) (rows : List LinkRow) (first : View) 
 wait_pace order rows first i c done rest journal s n hopes on t r l never b q p =
     let e : Entry = entry_of c i s.acts (Wait on) in
     let same = eq-eqb i i refl in
-    let kept : wait_told i (journal ++ e ∷ []) ≡ Some on = told_more kept_by i None journal e ∙ ap (λ t. cond t (Some on) (wait_told i journal)) same in
-    let a : asleep_told first i (journal ++ e ∷ []) ≡ asleep_told first i journal = told_more asleep_by i first.arch.asleep journal e ∙ ap (λ t. cond t (asleep_told first i journal) (asleep_told first i journal)) same in
-    let d : stopped_told first i (journal ++ e ∷ []) ≡ stopped_told first i journal = told_more stopped_by i (is_some first.arch.stopped) journal e ∙ ap (λ t. cond t (stopped_told first i journal) (stopped_told first i journal)) same in
+    let kept : wait_recorded i (journal ++ e ∷ []) ≡ Some on = recorded_more kept_by i None journal e ∙ ap (λ t. cond t (Some on) (wait_recorded i journal)) same in
+    let a : asleep_recorded first i (journal ++ e ∷ []) ≡ asleep_recorded first i journal = recorded_more asleep_by i first.arch.asleep journal e ∙ ap (λ t. cond t (asleep_recorded first i journal) (asleep_recorded first i journal)) same in
+    let d : stopped_recorded first i (journal ++ e ∷ []) ≡ stopped_recorded first i journal = recorded_more stopped_by i (is_some first.arch.stopped) journal e ∙ ap (λ t. cond t (stopped_recorded first i journal) (stopped_recorded first i journal)) same in
     let last : kept_wait i (journal ++ e ∷ []) ≡ Some s.acts = kept_more i journal e ∙ ap (λ t. cond (t && true) (Some s.acts) (kept_wait i journal)) same in
     record {
       ticks = ticks_now order i c done s n t.fresh r.ticks p.ticks;
@@ -162,7 +162,7 @@ wait_pace order rows first i c done rest journal s n hopes on t r l never b q p 
       asleep = λ x. a ∙ p.asleep (ap (λ (v : View). v.arch.asleep) (sym r.view) ∙ x);
       stopped = λ x. d ∙ p.stopped (ap (λ (v : View). is_some v.arch.stopped) (sym r.view) ∙ x);
       within = λ act x. (let y : s.acts ≡ act = same_Some _ _ (sym last ∙ x) in let u = r.acts in omega (arith, y, u));
-      kept = λ x. record { on = on; access = ap (λ (v : View). access_of (want_of v)) r.view ∙ b; told = kept };
+      kept = λ x. record { on = on; access = ap (λ (v : View). access_of (want_of v)) r.view ∙ b; entry = kept };
     }
 
 -- entries of one tick
@@ -191,19 +191,19 @@ at_end c i act journal es what =
     ap (λ ds. journal ++ ds) (map-append (entry_of c i act) es (what ∷ []))
     ∙ sym (append_assoc journal (made c i act es) (entry_of c i act what ∷ []))
 
-sleeps_told : (first : View) (c i act : ℕ) (journal : List Entry) (es : List What) (last : Option What) → last ≡ Some Slept → asleep_told first i (journal ++ made c i act (es ++ option_to_list last)) ≡ true
-sleeps_told first c i act journal es last q =
-    ap (λ (o : Option What). asleep_told first i (journal ++ made c i act (es ++ option_to_list o))) q
-    ∙ ap (asleep_told first i) (at_end c i act journal es Slept)
-    ∙ told_more asleep_by i first.arch.asleep (journal ++ made c i act es) (entry_of c i act Slept)
-    ∙ ap (λ t. cond t true (asleep_told first i (journal ++ made c i act es))) (eq-eqb i i refl)
+sleep_recorded : (first : View) (c i act : ℕ) (journal : List Entry) (es : List What) (last : Option What) → last ≡ Some Slept → asleep_recorded first i (journal ++ made c i act (es ++ option_to_list last)) ≡ true
+sleep_recorded first c i act journal es last q =
+    ap (λ (o : Option What). asleep_recorded first i (journal ++ made c i act (es ++ option_to_list o))) q
+    ∙ ap (asleep_recorded first i) (at_end c i act journal es Slept)
+    ∙ recorded_more asleep_by i first.arch.asleep (journal ++ made c i act es) (entry_of c i act Slept)
+    ∙ ap (λ t. cond t true (asleep_recorded first i (journal ++ made c i act es))) (eq-eqb i i refl)
 
-stops_told : (first : View) (c i act : ℕ) (journal : List Entry) (es : List What) (last : Option What) (cause : StopCause) → last ≡ Some (Stopped cause) → stopped_told first i (journal ++ made c i act (es ++ option_to_list last)) ≡ true
-stops_told first c i act journal es last cause q =
-    ap (λ (o : Option What). stopped_told first i (journal ++ made c i act (es ++ option_to_list o))) q
-    ∙ ap (stopped_told first i) (at_end c i act journal es (Stopped cause))
-    ∙ told_more stopped_by i (is_some first.arch.stopped) (journal ++ made c i act es) (entry_of c i act (Stopped cause))
-    ∙ ap (λ t. cond t true (stopped_told first i (journal ++ made c i act es))) (eq-eqb i i refl)
+stop_recorded : (first : View) (c i act : ℕ) (journal : List Entry) (es : List What) (last : Option What) (cause : StopCause) → last ≡ Some (Stopped cause) → stopped_recorded first i (journal ++ made c i act (es ++ option_to_list last)) ≡ true
+stop_recorded first c i act journal es last cause q =
+    ap (λ (o : Option What). stopped_recorded first i (journal ++ made c i act (es ++ option_to_list o))) q
+    ∙ ap (stopped_recorded first i) (at_end c i act journal es (Stopped cause))
+    ∙ recorded_more stopped_by i (is_some first.arch.stopped) (journal ++ made c i act es) (entry_of c i act (Stopped cause))
+    ∙ ap (λ t. cond t true (stopped_recorded first i (journal ++ made c i act es))) (eq-eqb i i refl)
 
 pub act_pace : (order : ℕ → List ℕ) (rows : List LinkRow) (first : View) (i c : ℕ) (done rest : List ℕ) (journal : List Entry) (s n : CoreAt) (hopes later : Hopes) (es : List What) (last : Option What) → AtTick order i c done rest journal → Acted s n last → (Gone s.view hopes → ⊥)
     → kept_wait i (journal ++ made c i s.acts (es ++ option_to_list last)) ≡ kept_wait i journal → Pace order rows first i c done journal s hopes → Pace order rows first i c (done ++ i ∷ []) (journal ++ made c i s.acts (es ++ option_to_list last)) n later
@@ -218,8 +218,8 @@ act_pace order rows first i c done rest journal s n hopes later es last t r neve
         let a = r.acts in let b = r.ticks in let d = r.slack in
         omega (arith, y, m, a, b, d))
   ];
-  asleep = λ x. sleeps_told first c i s.acts journal es last (r.asleep x);
-  stopped = λ x. (let h = r.stopped x in stops_told first c i s.acts journal es last h.0 h.1);
+  asleep = λ x. sleep_recorded first c i s.acts journal es last (r.asleep x);
+  stopped = λ x. (let h = r.stopped x in stop_recorded first c i s.acts journal es last h.0 h.1);
   within = λ act q. (let m = p.within act (sym k ∙ q) in let a = r.acts in omega (arith, m, a));
   kept = λ q. absurd (let m = p.within n.acts (sym k ∙ q) in let a = r.acts in omega (arith, m, a));
 }

@@ -13,23 +13,23 @@ use Rattle.run_journal.specs.declared.entry.What.TheVariants.{LineUp, LineDown, 
 use Rattle.board_machine.specs.Fabric.{is_wait, kept_after, kept_wait}
 use Rattle.board_machine.specs.World.{CoreAt}
 use Rattle.machine_laws.specs.Holding.{want_of}
-use Rattle.journal_laws.specs.Progress.{as_one, asleep_by, asleep_told, by_tick, has, is_rest, kept_by, rests_below, stopped_by, stopped_told, ticks_below, wait_told}
+use Rattle.journal_laws.specs.Progress.{as_one, asleep_by, asleep_recorded, by_tick, has, is_rest, kept_by, rests_below, stopped_by, stopped_recorded, ticks_below, wait_recorded}
 use Rattle.journal_laws.proofs.Outcomes.{Gone, access_of}
-use Rattle.journal_laws.proofs.Pace.{IsLate, rests_late, tick_late, told_more}
+use Rattle.journal_laws.proofs.Pace.{IsLate, rests_late, tick_late, recorded_more}
 
 -- the wait that a journal tells is the one at which a view waits
 pub record WaitsAt (i : ℕ) (v : View) (journal : List Entry) : Type 0 where
   pub on : WaitOn
   pub access : access_of (want_of v) ≡ Some on
-  pub told : wait_told i journal ≡ Some on
+  pub entry : wait_recorded i journal ≡ Some on
 
 -- where the cores of `done` have ticked in cycle c
 pub record Pace (order : ℕ → List ℕ) (rows : List LinkRow) (first : View) (i c : ℕ) (done : List ℕ) (journal : List Entry) (s : CoreAt) (hopes : Hopes) : Type 0 where
   pub ticks : s.ticks ≡ ticks_below order i c + as_one (has i done)
   pub slack : s.slack < 64
   pub bound : Gone s.view hopes ⊎ (s.ticks + s.slack ≤ 64 * s.acts + 63 + rests_below order rows first i journal c + as_one (has i done && is_rest order rows first i c journal))
-  pub asleep : s.view.arch.asleep ≡ true → asleep_told first i journal ≡ true
-  pub stopped : is_some s.view.arch.stopped ≡ true → stopped_told first i journal ≡ true
+  pub asleep : s.view.arch.asleep ≡ true → asleep_recorded first i journal ≡ true
+  pub stopped : is_some s.view.arch.stopped ≡ true → stopped_recorded first i journal ≡ true
   pub within : (act : ℕ) → kept_wait i journal ≡ Some act → act ≤ s.acts
   pub kept : kept_wait i journal ≡ Some s.acts → WaitsAt i s.view journal
 
@@ -99,10 +99,10 @@ other_pace order rows first i c done journal s hopes e le o l p =
       ticks = p.ticks;
       slack = p.slack;
       bound = elim p.bound [ inl g ↦ inl g | inr b ↦ inr (rw (r, t) b) ];
-      asleep = λ a. told_more asleep_by i first.arch.asleep journal e ∙ o.asleep (asleep_told first i journal) ∙ p.asleep a;
-      stopped = λ a. told_more stopped_by i (is_some first.arch.stopped) journal e ∙ o.stopped (stopped_told first i journal) ∙ p.stopped a;
+      asleep = λ a. recorded_more asleep_by i first.arch.asleep journal e ∙ o.asleep (asleep_recorded first i journal) ∙ p.asleep a;
+      stopped = λ a. recorded_more stopped_by i (is_some first.arch.stopped) journal e ∙ o.stopped (stopped_recorded first i journal) ∙ p.stopped a;
       within = λ act q. p.within act (sym k ∙ q);
       kept = λ q.
           let w = p.kept (sym k ∙ q) in
-          record { on = w.on; access = w.access; told = told_more kept_by i None journal e ∙ o.kept (wait_told i journal) ∙ w.told };
+          record { on = w.on; access = w.access; entry = recorded_more kept_by i None journal e ∙ o.kept (wait_recorded i journal) ∙ w.entry };
     }

@@ -30,7 +30,7 @@ use Rattle.journal_laws.specs.TakeLaw.{IsRightAct, IsRightTake, breaks_of, break
 use Rattle.journal_laws.proofs.Asking.{Agrees, AgreesIf, IsInstruction, act_splits}
 use Rattle.journal_laws.proofs.Lists.{filter_more, filter_skips}
 use Rattle.journal_laws.proofs.Truths.{or_false}
-use Rattle.journal_laws.proofs.Takes.{Account, flag_at, flag_of, right_same, told_same}
+use Rattle.journal_laws.proofs.Takes.{Account, flag_at, flag_of, right_same, determined_same}
 
 -- an entry of another act is on no tape of this one
 own_tapes : (journal : List Entry) (e : Entry) (core k : ℕ) → (e.act ≡ k → ⊥) → tape (journal ++ e ∷ []) core k ≡ tape journal core k
@@ -84,7 +84,7 @@ taken_more journal core act cycle kind what false h =
 
 record IsPlain (what : What) : Type 0 where
   change : is_change what ≡ false
-  told : line_told what ≡ None
+  latches : line_told what ≡ None
   take : (kind : Bool) → takes_break kind what ≡ false
   pending : (core : ℕ) (pending : List Breaks) → pending_after core what pending ≡ pending
   untaken : is_take what ≡ false
@@ -95,15 +95,15 @@ IsPlainIf (Some what) = IsPlain what
 
 action_plain : (s : Shown) (a : Action) → Agrees s (entry_of_action a) → IsPlain (entry_of_action a)
 action_plain s (action.Took t) h = elim h [ ]
-action_plain s (action.Got p x) h = record { change = refl; told = refl; take = λ k. refl; pending = λ c ps. refl; untaken = refl }
-action_plain s (action.Sent p x) h = record { change = refl; told = refl; take = λ k. refl; pending = λ c ps. refl; untaken = refl }
-action_plain s (action.Seen p x) h = record { change = refl; told = refl; take = λ k. refl; pending = λ c ps. refl; untaken = refl }
-action_plain s (action.Room p) h = record { change = refl; told = refl; take = λ k. refl; pending = λ c ps. refl; untaken = refl }
-action_plain s (action.Missed p b) h = record { change = refl; told = refl; take = λ k. refl; pending = λ c ps. refl; untaken = refl }
-action_plain s (action.Read p w) h = record { change = refl; told = refl; take = λ k. refl; pending = λ c ps. refl; untaken = refl }
-action_plain s (action.ReadRefused p) h = record { change = refl; told = refl; take = λ k. refl; pending = λ c ps. refl; untaken = refl }
-action_plain s (action.Wrote p w) h = record { change = refl; told = refl; take = λ k. refl; pending = λ c ps. refl; untaken = refl }
-action_plain s (action.WriteRefused p w) h = record { change = refl; told = refl; take = λ k. refl; pending = λ c ps. refl; untaken = refl }
+action_plain s (action.Got p x) h = record { change = refl; latches = refl; take = λ k. refl; pending = λ c ps. refl; untaken = refl }
+action_plain s (action.Sent p x) h = record { change = refl; latches = refl; take = λ k. refl; pending = λ c ps. refl; untaken = refl }
+action_plain s (action.Seen p x) h = record { change = refl; latches = refl; take = λ k. refl; pending = λ c ps. refl; untaken = refl }
+action_plain s (action.Room p) h = record { change = refl; latches = refl; take = λ k. refl; pending = λ c ps. refl; untaken = refl }
+action_plain s (action.Missed p b) h = record { change = refl; latches = refl; take = λ k. refl; pending = λ c ps. refl; untaken = refl }
+action_plain s (action.Read p w) h = record { change = refl; latches = refl; take = λ k. refl; pending = λ c ps. refl; untaken = refl }
+action_plain s (action.ReadRefused p) h = record { change = refl; latches = refl; take = λ k. refl; pending = λ c ps. refl; untaken = refl }
+action_plain s (action.Wrote p w) h = record { change = refl; latches = refl; take = λ k. refl; pending = λ c ps. refl; untaken = refl }
+action_plain s (action.WriteRefused p w) h = record { change = refl; latches = refl; take = λ k. refl; pending = λ c ps. refl; untaken = refl }
 
 actions_plain : (s : Shown) (o : Option Action) → AgreesIf s (entries_of_action o) → IsPlainIf (entries_of_action o)
 unfolding IsPlainIf
@@ -113,10 +113,10 @@ actions_plain s (Some a) h = action_plain s a h
 act_plain : (a : Act) → IsPlainIf (entry_of_act a)
 unfolding IsPlainIf
 act_plain acts.Retired = tt
-act_plain acts.Slept = record { change = refl; told = refl; take = λ k. refl; pending = λ c ps. refl; untaken = refl }
+act_plain acts.Slept = record { change = refl; latches = refl; take = λ k. refl; pending = λ c ps. refl; untaken = refl }
 act_plain (acts.Took t) = tt
-act_plain (acts.Raised esr) = record { change = refl; told = refl; take = λ k. refl; pending = λ c ps. refl; untaken = refl }
-act_plain (acts.Stopped cause) = record { change = refl; told = refl; take = λ k. refl; pending = λ c ps. refl; untaken = refl }
+act_plain (acts.Raised esr) = record { change = refl; latches = refl; take = λ k. refl; pending = λ c ps. refl; untaken = refl }
+act_plain (acts.Stopped cause) = record { change = refl; latches = refl; take = λ k. refl; pending = λ c ps. refl; untaken = refl }
 
 any_take : List Entry → Bool
 any_take es = list_any (λ (e : Entry). is_take e.what) es
@@ -124,7 +124,7 @@ any_take es = list_any (λ (e : Entry). is_take e.what) es
 -- the entries of the act so far are no takes
 record Midst (breaks : List EventRow) (first : View) (core acts : ℕ) (line : Bool) (view : View) (f : Fabric) : Type 0 where
   account : Account breaks first core acts line f
-  told : view_told first f.journal core acts ≡ Some view
+  determined : view_told first f.journal core acts ≡ Some view
   untaken : any_take (tape f.journal core acts) ≡ false
 
 none_with : (xs ys : List Entry) → any_take xs ≡ false → any_take ys ≡ false → any_take (xs ++ ys) ≡ false
@@ -140,11 +140,11 @@ plain_midst : (breaks : List EventRow) (first : View) (core acts : ℕ) (line : 
 plain_midst breaks first core acts line view f what p m =
     let e : Entry = entry_of f.cycle core acts what in
     record {
-      account = own_account breaks first core acts line f what p.change p.told
+      account = own_account breaks first core acts line f what p.change p.latches
           (λ kind. rw (taken_more f.journal core acts f.cycle kind what false (p.take kind), p.pending core f.pending) (omega (arith, m.account.enough kind)))
           (λ kind h. ap (λ (ps : List Breaks). flag_at ps core kind) (sym (p.pending core f.pending)) ∙ h)
           m.account;
-      told = told_same first f.journal (f.journal ++ e ∷ []) core acts (λ j l. own_tapes f.journal e core j (λ z. omega (arith, z, l))) ∙ m.told;
+      determined = determined_same first f.journal (f.journal ++ e ∷ []) core acts (λ j l. own_tapes f.journal e core j (λ z. omega (arith, z, l))) ∙ m.determined;
       untaken = ap any_take (filter_more (is_of_act core acts) f.journal e (is_of_act core acts e) refl) ∙ none_with (tape f.journal core acts) (cond (is_of_act core acts e) (e ∷ []) []) m.untaken (one_or_no_take (is_of_act core acts e) e p.untaken);
     }
 
@@ -191,13 +191,13 @@ instruction_account : (breaks : List EventRow) (first : View) (core acts : ℕ) 
     → tape f.journal core acts ≡ [] → view_told first f.journal core acts ≡ Some view → Account breaks first core acts line f → Account breaks first core (acts + 1) line (act_leaves core acts deed f)
 unfolding any_take
 instruction_account breaks first core acts line view f deed w i n t a =
-    let m : Midst breaks first core acts line view f = record { account = a; told = t; untaken = ap any_take n } in
+    let m : Midst breaks first core acts line view f = record { account = a; determined = t; untaken = ap any_take n } in
     let half = some_midst breaks first core acts line view f (entries_of_action deed.action) (actions_plain (shown f core) deed.action i.agrees) m in
     let all = some_midst breaks first core acts line view (entered_some core acts (entries_of_action deed.action) f) (entry_of_act deed.done.act) (act_plain deed.done.act) half in
     let g = act_leaves core acts deed f in
     ends breaks first core acts line g (record {
       view = view;
-      told = all.told;
+      determined = all.determined;
       takes = untaken_right breaks core (high g.journal core acts) view (tape g.journal core acts) all.untaken;
       passes = λ h. ap (λ b. b && may_interrupt view) (all.account.is_high acts (omega arith) ∙ sym (line_is f core line w a.has_line)) ∙ none_passed view (shown f core) i.due;
     }) all.account
@@ -310,7 +310,7 @@ take_account breaks first core acts line view f t w d n v a =
     let line_now : high g.journal core acts ≡ line_at f core = all.is_high acts (omega arith) ∙ sym (line_is f core line w a.has_line) in
     ends breaks first core acts line g (record {
       view = view;
-      told = told_same first f.journal g.journal core acts (λ j l. own_tapes f.journal e core j (λ z. omega (arith, z, l))) ∙ v;
+      determined = determined_same first f.journal g.journal core acts (λ j l. own_tapes f.journal e core j (λ z. omega (arith, z, l))) ∙ v;
       takes = subst (AllByRecursion (λ (e : Entry). IsRightTake breaks core (high g.journal core acts) view e.cycle e.what)) (sym own) (subst (λ line. IsRightTake breaks core line view f.cycle (Took t)) (sym line_now) (due_right breaks core view (shown f core) t f.cycle a.come d), tt);
       passes = λ h. let z : false ≡ true = ap no_take (sym own) ∙ h in cc;
     }) all

@@ -56,15 +56,15 @@ unfolding KeepsAccount
 nothing_keeps breaks first core acts by act what f s a = record { line = a.line; account = nothing_account breaks first core acts a.line f by act what s a.account }
 
 wait_says : (on : WaitOn) → SaysNothing (Wait on)
-wait_says on = record { response = refl; change = refl; take = λ k. refl; told = refl; pending = λ c ps. refl }
+wait_says on = record { response = refl; change = refl; take = λ k. refl; latches = refl; pending = λ c ps. refl }
 
 -- the lines
 
 up_edge : IsEdge LineUp true
-up_edge = record { response = refl; change = refl; rise = refl; take = λ k. refl; told = refl; pending = λ c ps. refl }
+up_edge = record { response = refl; change = refl; rise = refl; take = λ k. refl; latches = refl; pending = λ c ps. refl }
 
 down_edge : IsEdge LineDown false
-down_edge = record { response = refl; change = refl; rise = refl; take = λ k. refl; told = refl; pending = λ c ps. refl }
+down_edge = record { response = refl; change = refl; rise = refl; take = λ k. refl; latches = refl; pending = λ c ps. refl }
 
 own_latch : (breaks : List EventRow) (first : View) (core acts : ℕ) (new old : Bool) (f : Fabric) → KeepsAccount breaks first core acts f (entered_some core acts (line_change new old) f)
 unfolding KeepsAccount
@@ -92,15 +92,15 @@ unfolding KeepsAccount
 account_parts breaks first cores core s q = record {
   come = λ f a. record { line = a.line; account = come_account breaks first core s.acts a.line f a.account };
   devices = λ f d a. record { line = a.line; account = record { right = a.account.right; has_line = a.account.has_line; is_high = a.account.is_high; enough = a.account.enough; come = a.account.come; all_from = a.account.all_from } };
-  byte = λ f uart byte. nothing_keeps breaks first core s.acts no_core 0 (Left uart byte) f (record { response = refl; change = refl; take = λ k. refl; told = refl; pending = λ c ps. refl });
+  byte = λ f uart byte. nothing_keeps breaks first core s.acts no_core 0 (Left uart byte) f (record { response = refl; change = refl; take = λ k. refl; latches = refl; pending = λ c ps. refl });
   latch = latch_keeps breaks first cores core s q;
 }
 
 host_account : (breaks : List EventRow) (first : View) (core acts : ℕ) (f : Fabric) (n : ℕ) → KeepsAccount breaks first core acts f (host_moves f n)
 host_account breaks first core acts f n =
     host_keeps (KeepsAccount breaks first core acts) (account_joins breaks first core acts)
-    (λ f link item. nothing_keeps breaks first core acts no_core 0 (HostSent link item) f (record { response = refl; change = refl; take = λ k. refl; told = refl; pending = λ c ps. refl }))
-    (λ f link item. nothing_keeps breaks first core acts no_core 0 (HostGot link item) f (record { response = refl; change = refl; take = λ k. refl; told = refl; pending = λ c ps. refl })) f n
+    (λ f link item. nothing_keeps breaks first core acts no_core 0 (HostSent link item) f (record { response = refl; change = refl; take = λ k. refl; latches = refl; pending = λ c ps. refl }))
+    (λ f link item. nothing_keeps breaks first core acts no_core 0 (HostGot link item) f (record { response = refl; change = refl; take = λ k. refl; latches = refl; pending = λ c ps. refl })) f n
 
 -- a tick of another core
 
@@ -223,9 +223,11 @@ less a b c d h = omega (arith, h)
 pub take_law_holds : TakeLawHolds
 take_law_holds = record {
   law = λ b views inputs w r core s first q p.
-      let a = (steps_accounts b.events views r.first w r.events r.ran (start_accounts b views inputs r.first r.began)).each core s first q p in
+      let all = steps_accounts b.events views r.first w r.events r.ran (start_accounts b views inputs r.first r.began) in
+      let a = all.each core s first q p in
       record {
         right = a.account.right;
+        no_more = λ act l. all.tells.none_ahead core act s q l;
         enough = λ kind. less (breaks_taken w.fabric.journal core kind) (as_one (flag_at w.fabric.pending core kind)) (breaks_of w.fabric.left core kind) (breaks_of b.events core kind) (a.account.enough kind);
       };
 }

@@ -47,14 +47,14 @@ state_same v t u (suc k) h = ap (λ es. one_more es (state_after v t k)) (h k (o
 actions_of : List Entry → List Action
 actions_of es = flat_map (λ (e : Entry). actions_in e.what) es
 
-pub told_same : (first : View) (a b : List Entry) (core k : ℕ) → ((j : ℕ) → j < k → tape b core j ≡ tape a core j) → view_told first b core k ≡ view_told first a core k
+pub determined_same : (first : View) (a b : List Entry) (core k : ℕ) → ((j : ℕ) → j < k → tape b core j ≡ tape a core j) → view_told first b core k ≡ view_told first a core k
 unfolding actions_of
-told_same first a b core k h = state_same first (responses b core) (responses a core) k (λ j l. ap actions_of (h j l))
+determined_same first a b core k h = state_same first (responses b core) (responses a core) k (λ j l. ap actions_of (h j l))
 
 pub right_same : (breaks : List EventRow) (first : View) (a b : List Entry) (core k : ℕ) → ((j : ℕ) → j ≤ k → tape b core j ≡ tape a core j) → high b core k ≡ high a core k → IsRightAct breaks first a core k → IsRightAct breaks first b core k
 right_same breaks first a b core k t h r = record {
   view = r.view;
-  told = told_same first a b core k (λ j l. t j (omega (arith, l))) ∙ r.told;
+  determined = determined_same first a b core k (λ j l. t j (omega (arith, l))) ∙ r.determined;
   takes = rw (t k (omega arith), h) r.takes;
   passes = rw (t k (omega arith), h) r.passes;
 }
@@ -113,7 +113,7 @@ pub record SaysNothing (what : What) : Type 0 where
   pub response : is_response what ≡ false
   pub change : is_change what ≡ false
   pub take : (kind : Bool) → takes_break kind what ≡ false
-  pub told : line_told what ≡ None
+  pub latches : line_told what ≡ None
   pub pending : (core : ℕ) (pending : List Breaks) → pending_after core what pending ≡ pending
 
 nothing_foreign : (core : ℕ) (e : Entry) → SaysNothing e.what → IsForeign core e
@@ -125,7 +125,7 @@ nothing_foreign core e s = record {
 
 pub nothing_account : (breaks : List EventRow) (first : View) (core acts : ℕ) (line : Bool) (f : Fabric) (by act : ℕ) (what : What) → SaysNothing what → Account breaks first core acts line f → Account breaks first core acts line (entered by act what f)
 nothing_account breaks first core acts line f by act what s a =
-    foreign_account breaks first core acts line f by act what (nothing_foreign core (entry_of f.cycle by act what) s) (ap (λ o. slice_get (line_set by o f.lines) core) s.told) (ap (λ (ps : List Breaks). slice_get ps core) (s.pending by f.pending)) a
+    foreign_account breaks first core acts line f by act what (nothing_foreign core (entry_of f.cycle by act what) s) (ap (λ o. slice_get (line_set by o f.lines) core) s.latches) (ap (λ (ps : List Breaks). slice_get ps core) (s.pending by f.pending)) a
 
 -- a change of the core's own line, entered with its number of acts
 
@@ -134,7 +134,7 @@ pub record IsEdge (what : What) (up : Bool) : Type 0 where
   pub change : is_change what ≡ true
   pub rise : is_rise what ≡ up
   pub take : (kind : Bool) → takes_break kind what ≡ false
-  pub told : line_told what ≡ Some up
+  pub latches : line_told what ≡ Some up
   pub pending : (core : ℕ) (pending : List Breaks) → pending_after core what pending ≡ pending
 
 pub edge_account : (breaks : List EventRow) (first : View) (core acts : ℕ) (line : Bool) (f : Fabric) (what : What) (up : Bool) → IsEdge what up → Account breaks first core acts line f → Account breaks first core acts up (entered core acts what f)
@@ -150,7 +150,7 @@ edge_account breaks first core acts line f what up s a =
     let p : pending_after core what f.pending ≡ f.pending = s.pending core f.pending in
     record {
       right = λ k b. right_same breaks first f.journal (f.journal ++ e ∷ []) core k (λ j m. t j) (before k b) (a.right k b);
-      has_line = ap (λ o. slice_get (line_set core o f.lines) core) s.told ∙ slice_get_set_same f.lines core line up a.has_line;
+      has_line = ap (λ o. slice_get (line_set core o f.lines) core) s.latches ∙ slice_get_set_same f.lines core line up a.has_line;
       is_high = λ k m. now k m;
       enough = λ kind. rw (c kind, p) (a.enough kind);
       come = λ kind m. a.come kind (ap (λ (ps : List Breaks). flag_at ps core kind) (sym p) ∙ m);

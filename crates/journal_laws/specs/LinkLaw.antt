@@ -2,7 +2,7 @@
 use Rattle.std.specs.Prelude.{◌≡◌, ℕ, ◌<◌, ◌≤◌, ◌==◌, Bool, true, false, if◌then◌else◌, List, [], ◌∷◌, ◌++◌, length, drop, filter, Option, Some, None, slice_get}
 use Rattle.std.specs.List.{filter_map}
 use Rattle.axi_link.specs.declared.item.Item.{Item}
-use Rattle.axi_link.specs.Channel.{Channel, oldest}
+use Rattle.axi_link.specs.Channel.{Channel}
 use Rattle.board_file.specs.declared.board.LinkRow.{LinkRow}
 use Rattle.run_journal.specs.declared.entry.Entry.{Entry}
 use Rattle.run_journal.specs.declared.entry.What.{What}
@@ -39,30 +39,30 @@ depth_of None = 0
 depth_of (Some r) = r.depth
 
 -- a link after a journal; a port that leads nowhere is a link of depth 0
-abbrev pub link_told : List LinkRow → List Entry → Option ℕ → Channel
-link_told rows journal None = record { depth = 0; items = [] }
-link_told rows journal (Some link) = record { depth = depth_of (slice_get rows link); items = holds rows link journal }
+abbrev pub link_recorded : List LinkRow → List Entry → Option ℕ → Channel
+link_recorded rows journal None = record { depth = 0; items = [] }
+link_recorded rows journal (Some link) = record { depth = depth_of (slice_get rows link); items = holds rows link journal }
 
 abbrev pub HasFirst : Item → Channel → Type 0
-HasFirst item c = oldest c ≡ Some item
+HasFirst item c = slice_get c.items 0 ≡ Some item
 
 abbrev pub HasRoom : Channel → Type 0
 HasRoom c = length c.items < c.depth
 
 -- the link to a port is empty, or the one from it is full
 abbrev pub IsShut : List LinkRow → List Entry → ℕ → ℕ → Bool → Type 0
-IsShut rows before core port true = let c = link_told rows before (link_from rows core port) in length c.items ≡ c.depth
-IsShut rows before core port false = (link_told rows before (link_to rows core port)).items ≡ []
+IsShut rows before core port true = let c = link_recorded rows before (link_from rows core port) in length c.items ≡ c.depth
+IsShut rows before core port false = (link_recorded rows before (link_to rows core port)).items ≡ []
 
--- an entry may stand behind these entries: an item that came out is the first one, an item that went in found room, and an
--- access missed or waited only where there was none
+-- an entry may stand after these entries: an item that came out was the first, an item that went in found room, and an
+-- access missed or waited only at an empty or full link
 abbrev pub MayStand : List LinkRow → List Entry → ℕ → What → Type 0
-MayStand rows before core (Got port item) = HasFirst item (link_told rows before (link_to rows core port))
-MayStand rows before core (Seen port item) = HasFirst item (link_told rows before (link_to rows core port))
-MayStand rows before core (HostGot link item) = HasFirst item (link_told rows before (Some link))
-MayStand rows before core (Sent port item) = HasRoom (link_told rows before (link_from rows core port))
-MayStand rows before core (Room port) = HasRoom (link_told rows before (link_from rows core port))
-MayStand rows before core (HostSent link item) = HasRoom (link_told rows before (Some link))
+MayStand rows before core (Got port item) = HasFirst item (link_recorded rows before (link_to rows core port))
+MayStand rows before core (Seen port item) = HasFirst item (link_recorded rows before (link_to rows core port))
+MayStand rows before core (HostGot link item) = HasFirst item (link_recorded rows before (Some link))
+MayStand rows before core (Sent port item) = HasRoom (link_recorded rows before (link_from rows core port))
+MayStand rows before core (Room port) = HasRoom (link_recorded rows before (link_from rows core port))
+MayStand rows before core (HostSent link item) = HasRoom (link_recorded rows before (Some link))
 MayStand rows before core (Missed port full) = IsShut rows before core port full
 MayStand rows before core (Wait on) = IsShut rows before core on.port on.full
 MayStand rows before core _ = Unit {0}
@@ -71,7 +71,7 @@ MayStand rows before core _ = Unit {0}
 abbrev pub LinksFit : List LinkRow → List Entry → Type 0
 LinksFit rows journal = (link : ℕ) → length (holds rows link journal) ≤ depth_of (slice_get rows link)
 
--- at each place of the journal no link holds more than its depth, and each entry stands where it may
+-- the law: at each place of the journal no link holds more than its depth, and each entry stands where it may
 pub record LinkLaw (rows : List LinkRow) (journal : List Entry) : Type 0 where
   pub fits : (before later : List Entry) → journal ≡ before ++ later → LinksFit rows before
   pub stands : (before later : List Entry) (e : Entry) → journal ≡ before ++ e ∷ later → MayStand rows before e.core e.what

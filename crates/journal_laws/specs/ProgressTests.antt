@@ -21,6 +21,13 @@ awake = record { arch = fresh 0 Big false; memory = [] }
 abbrev pub HasBound : List Entry → Type 0
 HasBound = ProgressBound each_cycle file_link (awake ∷ [])
 
+-- the same core with a tick in each second cycle
+abbrev pub each_second : ℕ → List ℕ
+each_second = ticking Ascending (2 ∷ [])
+
+abbrev pub HasSlowBound : List Entry → Type 0
+HasSlowBound = ProgressBound each_second file_link (awake ∷ [])
+
 -- an entry of the host
 abbrev pub host_sends : ℕ → Entry
 host_sends cycle = record { cycle = cycle; core = 65535; act = 0; what = HostSent 0 (item 7) }
@@ -31,6 +38,8 @@ pub record ProgressBoundIsTested : Type 0 where
   pub two_acts : HasBound (at_act 127 1 (Raised 1) ∷ [])
   pub one_tick_late : HasBound (at_act 64 0 (Raised 1) ∷ []) → ⊥
   pub held_up : HasBound (at_act 63 0 (Raised 1) ∷ at_act 128 1 (Raised 1) ∷ []) → ⊥
+  pub slow_in_time : HasSlowBound (at_act 126 0 (Raised 1) ∷ [])
+  pub slow_late : HasSlowBound (at_act 128 0 (Raised 1) ∷ []) → ⊥
   -- a wait at an empty link counts, up to the item
   pub waited : HasBound (at_act 0 0 waits_get ∷ host_sends 100 ∷ at_act 100 0 (Got 3 (item 7)) ∷ [])
   pub waited_on : HasBound (at_act 0 0 waits_get ∷ host_sends 1 ∷ at_act 100 0 (Got 3 (item 7)) ∷ []) → ⊥

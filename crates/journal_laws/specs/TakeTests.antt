@@ -30,6 +30,7 @@ pub record TakeLawIsTested : Type 0 where
   pub of_no_line : (first : View) → TakeLaw [] first 0 1 (takes_interrupt 0 ∷ []) → ⊥
   pub of_fallen_line : (first : View) → TakeLaw [] first 0 1 (at_act 7 0 LineUp ∷ at_act 8 0 LineDown ∷ takes_interrupt 0 ∷ []) → ⊥
   pub not_let_in : (first : View) → may_interrupt first ≡ false → TakeLaw [] first 0 1 (at_act 8 0 LineUp ∷ takes_interrupt 0 ∷ []) → ⊥
+  pub after_its_acts : (first : View) → TakeLaw [] first 0 0 (takes_interrupt 0 ∷ []) → ⊥
   pub taken_twice : (first : View) → TakeLaw (one_break 0 false) first 0 2 (at_act 5 0 (Took Break) ∷ at_act 6 1 (Took Break) ∷ []) → ⊥
   pub before_its_cycle : (first : View) → TakeLaw (one_break 0 false) first 0 1 (at_act 4 0 (Took Break) ∷ []) → ⊥
   pub of_other_core : (first : View) → TakeLaw (one_break 1 false) first 0 1 (at_act 5 0 (Took Break) ∷ []) → ⊥
