@@ -11,7 +11,7 @@ use Rattle.clap.specs.Simple.{App, Shape}
 use Rattle.clap.specs.Walk.{Row, first_of}
 use Rattle.clap.specs.Words.{matches_of}
 use Rattle.command_words.specs.Splits.{IsAsmSplit, IsDisSplit, IsRawSplit, IsRunSplit, asm_app, dis_app, faults, raw_app, run_app, value_of}
-use Rattle.command_words.specs.Words.{Answers, Form, Text, asm_form, asm_with, dis_form, dis_with, file_in, is_raised, meant, raised_value, raw_form, raw_with, run_form, run_with}
+use Rattle.command_words.specs.Words.{Answers, Form, Text, asm_form, asm_with, dis_form, dis_with, is_raised, meant, raised_value, raw_form, raw_with, run_form, run_with}
 use Rattle.command_words.specs.declared.command.Command.{Command}
 use Rattle.command_words.specs.declared.command.WordsFault.{WordsFault}
 use Rattle.command_words.specs.declared.command.WordsFault.TheVariants.{NoMemory, Usage}

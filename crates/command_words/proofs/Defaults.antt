@@ -1,5 +1,5 @@
 -- A row that a default adds.
-use Rattle.std.proofs.Common.{◌≡◌, Bool, false, List, [], ◌∷◌, Some, refl}
+use Rattle.std.proofs.Common.{◌≡◌, false, List, [], ◌∷◌, Some, refl}
 use Rattle.std.specs.Str.{bytes_eq}
 use Rattle.clap.specs.Walk.{Row, Text, first_of, has_row, with_values}
 use Rattle.clap.specs.declared.builder.value_parser.Reading.{Reading}

@@ -1,5 +1,5 @@
 -- The command `raw`, as clap sees it.
-use Rattle.std.proofs.Common.{◌≡◌, codes, false, true, refl, [], ◌∷◌}
+use Rattle.std.proofs.Common.{◌≡◌, codes, true, refl, [], ◌∷◌}
 use Rattle.std.proofs.lemmas.Bool.{false≢true}
 use Rattle.clap.proofs.FaultLemmas.{leaf_fault}
 use Rattle.clap.proofs.OnLiterals.{clap_on_literals}

@@ -4,7 +4,9 @@ ghost use Rattle.command_words.specs.Words.{Answers, asm_form, asm_with, at_most
 
 use crate::command::{Command, WordsFault};
 use crate::number::number_in;
-use crate::split::{AsmWords, DisWords, RawWords, RunWords, split_asm, split_dis, split_raw, split_run};
+use crate::split::{
+    AsmWords, DisWords, RawWords, RunWords, split_asm, split_dis, split_raw, split_run,
+};
 use host_io::FileName;
 use std::alloc::Global;
 

@@ -86,7 +86,9 @@ fn dis_command<'a>(alloc: Global) -> Result<Command<'a>, AllocError>
     ensures { IfOk result (λ c. app_of c ≡ dis_app) }
 {
     let image = Arg::new(alloc, "IMAGE");
-    Command::new(alloc, "dis").disable_help_flag(true).arg(image)
+    Command::new(alloc, "dis")
+        .disable_help_flag(true)
+        .arg(image)
 }
 
 /// Splits the words of `raw`, the first of which is the command.

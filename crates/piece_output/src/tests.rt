@@ -1,6 +1,6 @@
 //! Files in memory, whose calls fail where they are told to.
 use crate::write_file;
-use host_io::{Failing, FileName, MemFile, MemShelf, StoreFault};
+use host_io::{Failing, FileName, MemFile, MemShelf, StoreFault, first_of};
 use std::alloc::Global;
 use std::test::Fail;
 
@@ -50,7 +50,7 @@ fn files_are_written_in_pieces(rt: HostRuntime) -> Result<(), Fail> {
         (65_536, Some(Failing { call: 2, moved: 0 }), Ok(()), 65_536),
     ] {
         let mut shelf = shelf(alloc, failing)?;
-        let answer = write_file(alloc, &mut shelf, &name, &bytes.as_slice()[..count]);
+        let answer = write_file(alloc, &mut shelf, &name, first_of(bytes.as_slice(), count));
         assert!(rt; answer == wanted, "{count}: {answer:?}");
         let content = shelf.content("old").ok_or("file")?;
         assert!(rt; content.len() == left, "{count}: {}", content.len());

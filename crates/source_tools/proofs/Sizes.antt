@@ -1,5 +1,5 @@
 -- How many bytes the parts of an image have.
-use Rattle.std.proofs.Common.{◌≡◌, ℕ, ◌+◌, ◌≤◌, ◌<◌, ◌^◌, arith, List, ◌++◌, ap, ◌∙◌, take, drop, get_or, flat_map, length, length-append}
+use Rattle.std.proofs.Common.{◌≡◌, ℕ, ◌+◌, ◌≤◌, ◌<◌, arith, List, ◌++◌, ap, ◌∙◌, take, drop, get_or, flat_map, length, length-append}
 use Rattle.std.proofs.lemmas.List.Elements.{All-get_or}
 use Rattle.std.proofs.lemmas.Option.{slice_get-get_or}
 use Rattle.std.specs.List.{All}

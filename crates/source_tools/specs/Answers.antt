@@ -1,5 +1,5 @@
 -- What the answers of `asm` and `dis` say.
-use Rattle.std.specs.Prelude.{◌≡◌, ◌⊎◌, ⊤, ℕ, List, codes, Option, Some, Result, Ok, Err}
+use Rattle.std.specs.Prelude.{◌≡◌, ◌⊎◌, ⊤, ℕ, List, codes, Option, Result, Ok, Err}
 use Rattle.core_regs.specs.declared.causes.Order.{Order}
 use Rattle.elf_image.specs.Elf.{ElfOf, IsRefusal as IsImageRefusal}
 use Rattle.elf_image.specs.Written.{file_of}
@@ -8,14 +8,14 @@ use Rattle.elf_image.specs.declared.image.Image.{Image}
 use Rattle.host_io.specs.Outside.{Adds, Files, ShelfState, SinkState}
 use Rattle.host_io.specs.declared.faults.StoreFault.{StoreFault}
 use Rattle.host_io.specs.declared.faults.StoreFault.TheVariants as store
-use Rattle.mb_asm.specs.Assembly.{Assembles, IsAssembled, IsRefusal as IsSourceRefusal}
+use Rattle.mb_asm.specs.Assembly.{Assembles, IsRefusal as IsSourceRefusal}
 use Rattle.mb_asm.specs.declared.answer.AsmFault.TheVariants.{Refused as RefusedSource}
 use Rattle.mb_asm.specs.declared.answer.Assembled.{Assembled}
 use Rattle.piece_output.specs.Stored.{Wrote}
 use Rattle.source_tools.specs.Listing.{listing}
 use Rattle.source_tools.specs.Loaded.{Holds, NotLoaded, image_limit, source_limit}
 use Rattle.source_tools.specs.declared.refusal.Refusal.{Refusal}
-use Rattle.source_tools.specs.declared.refusal.Refusal.TheVariants.{BadImage, BadSource, CannotRead, CannotWrite, NoMemory, TooLong}
+use Rattle.source_tools.specs.declared.refusal.Refusal.TheVariants.{BadImage, BadSource, CannotWrite, NoMemory}
 
 -- ---- `asm`
 

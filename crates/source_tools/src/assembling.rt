@@ -31,7 +31,11 @@ fn assembled_file<S: Shelf>(
             Ok(file) => Ok(file),
             Err(_) => Err(Refusal::NoMemory),
         },
-        Err(AsmFault::Refused { code, line, column }) => Err(Refusal::BadSource { code, line, column }),
+        Err(AsmFault::Refused { code, line, column }) => Err(Refusal::BadSource {
+            code,
+            line,
+            column,
+        }),
         Err(AsmFault::NoMemory) => Err(Refusal::NoMemory),
     }
 }

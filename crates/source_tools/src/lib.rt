@@ -13,11 +13,15 @@
 mod assembling;
 mod disassembling;
 mod elf_file;
+mod law;
 mod listing;
 mod loading;
 mod refusal;
 
 pub use assembling::asm;
 pub use disassembling::dis;
+pub use law::{asm_is_complete, dis_is_complete, faults_are_told};
 pub use refusal::Refusal;
 
+#[cfg(test)]
+mod tests;
