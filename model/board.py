@@ -1,7 +1,8 @@
 """A whole board, plain and slow: board file, images and inputs to output files, journal and report.
 
-Written from what a board is, apart from the proved program. A cycle is a step of the devices (breaks become pending), a
-move of the host at each link with a file, and a tick of each core that is due. There are no devices yet.
+Written from what a board is, apart from the proved program. A cycle is a step of the devices (breaks become pending, then
+timers, UARTs and controllers move, then lines are latched), a move of the host at each link with a file, and a tick of each
+core that is due.
 
     python3 model/board.py run BOARD [--cycles N] [--journal N] [--write-journal FILE]
 
@@ -15,6 +16,7 @@ import sys
 
 import board_rules
 import core
+import devices
 import elf
 
 CYCLES, ENTRIES = 10_000_000, 1_048_576
@@ -62,17 +64,17 @@ class Link:
 
 
 class Ports:
-    """What a core stands in. A port that isn't connected is always empty and always full."""
+    """What a core stands in. A port that isn't connected is always empty and always full. `line` is the latched line."""
 
     def __init__(self):
-        self.gets, self.puts = {}, {}
+        self.gets, self.puts, self.bus = {}, {}, devices.Bus()
         self.pending, self.coming = set(), set()
         self.line = False
 
     @property
     def hopes(self):
         """The kinds of takes that are pending or may still come."""
-        return self.pending | self.coming
+        return self.pending | self.coming | ({"interrupt"} if self.bus.controller else set())
 
     def first(self, port):
         link = self.gets.get(port)
@@ -91,28 +93,52 @@ class Ports:
         self.pending.discard(kind)
 
     def read(self, addr):
-        return None
+        return self.bus.access(addr)
 
     def write(self, addr, word):
-        return None
+        return self.bus.access(addr, word)
 
 
 class Board:
-    """Cores, links and events are lists in board order; a core is its name, its clock, itself and its ports."""
+    """All lists are in board order; a core is its name, its clock, itself and its ports."""
 
-    def __init__(self, cores, links, events, order="ascending", uarts=0):
+    def __init__(self, cores, links, events, order="ascending", timers=(), uarts=(), controllers=()):
         self.cores, self.links, self.order = cores, links, order
+        self.timers, self.uarts, self.controllers = timers, uarts, controllers
         self.events = list(events)  # (core's ports, cycle, kind)
         self.cycle, self.journal = 0, []
         self.acts, self.waits = [0] * len(cores), [False] * len(cores)
-        self.need = 5 * len(cores) + len(links) + uarts
+        self.need = 5 * len(cores) + len(links) + len(uarts)
         self.tell_what_comes()
 
     def tell_what_comes(self):
         for _, _, _, ports in self.cores:
             ports.coming = {kind for whose, _, kind in self.events if whose is ports}
 
+    def enter(self, who, act, what):
+        self.journal.append(f"{self.cycle} {who} {act} {what}\n")
+
     def devices(self):
+        self.give_breaks()
+        for timer in self.timers:
+            timer.cycle()
+        for uart in self.uarts:
+            byte = uart.cycle(self.cycle)
+            if byte is not None:
+                self.enter("-", 0, f"left {uart.name} {byte:02X}")
+        for controller in self.controllers:
+            controller.cycle()
+        self.latch()
+
+    def latch(self):
+        """Each core's line, as its ticks see it."""
+        for (name, _, _, ports), acts in zip(self.cores, self.acts):
+            line = ports.bus.line
+            if line != ports.line:
+                self.enter(name, acts, "lineup" if line else "linedown")
+            ports.line = line
+
+    def give_breaks(self):
         given = [event for event in self.events if event[1] <= self.cycle]
         if given:
             self.events = [event for event in self.events if event[1] > self.cycle]
@@ -125,11 +151,11 @@ class Board:
             if link.given and link.has_room():
                 control, word = item = link.given.popleft()
                 link.put(item)
-                self.journal.append(f"{self.cycle} - 0 hostsent {link.name} {control} {word:08X}\n")
+                self.enter("-", 0, f"hostsent {link.name} {control} {word:08X}")
             elif link.to_file is not None and link.items:
                 control, word = item = link.take()
                 link.left.append(item)
-                self.journal.append(f"{self.cycle} - 0 hostgot {link.name} {control} {word:08X}\n")
+                self.enter("-", 0, f"hostgot {link.name} {control} {word:08X}")
 
     def turns(self):
         """The numbers of the cores in the order of this cycle."""
@@ -142,8 +168,8 @@ class Board:
     def tick(self, number):
         name, _, one, ports = self.cores[number]
         acted, told = one.tick(ports)
-        if told and (acted or not self.waits[number]):
-            self.journal += [f"{self.cycle} {name} {self.acts[number]} {what}\n" for what in told]
+        for what in told if acted or not self.waits[number] else ():
+            self.enter(name, self.acts[number], what)
         self.waits[number] = not acted and (self.waits[number] or bool(told))
         self.acts[number] += acted
 
@@ -157,7 +183,7 @@ class Board:
 
     def still(self):
         """The status of a board at rest, or None."""
-        if self.events or any(link.can_move() for link in self.links):
+        if self.events or any(link.can_move() for link in self.links) or not all(uart.is_done() for uart in self.uarts):
             return None
         idle = [one.idle(ports) for _, _, one, ports in self.cores]
         if None in idle:
@@ -181,6 +207,7 @@ class Board:
         for (name, _, one, ports), acts in zip(self.cores, self.acts):
             lines.append(f"core {name} {one.idle(ports) or 'runs'} pc {one.pc:08X} acts {acts}")
         lines += [f"link {link.name} sent {link.sent} taken {link.taken}" for link in self.links]
+        lines += [f"uart {uart.name} left {len(uart.left)}" for uart in self.uarts]
         return "".join(line + "\n" for line in lines)
 
 
@@ -213,16 +240,12 @@ def rows(file, table):
     return sorted(file.get(table, {}).items())
 
 
-def not_yet(file):
-    """The first place of a device, none of which is built yet, or None."""
-    places = [f"{kind}.{name}" for kind in ("timer", "intc", "uart") for name, _ in rows(file, kind)]
-    return min(places, default=None)
+FILE_KEYS = (("core", "image"), ("link", "from_file"), ("link", "to_file"), ("uart", "input"), ("uart", "output"))
 
 
 def file_names(file):
     """Every image, input and output of a board."""
-    names = {row["image"] for _, row in rows(file, "core")}
-    return names | {row[key] for _, row in rows(file, "link") for key in ("from_file", "to_file") if key in row}
+    return {row[key] for table, key in FILE_KEYS for _, row in rows(file, table) if key in row}
 
 
 def view(data, name, row, network):
@@ -238,11 +261,8 @@ def view(data, name, row, network):
     return core.Core(memory, image.entry, image.order, network, row["pipeline"])
 
 
-def build(file, folder):
-    """The board of a file; images and inputs are read in board order."""
-    cores = [(name, row.get("clock", 1), view(load(folder, row["image"], LIMITS["image"]), name, row, file.get("network", False)), Ports())
-             for name, row in rows(file, "core")]
-    by_name = {name: ports for name, _, _, ports in cores}
+def build_links(file, folder, by_name):
+    """The links, joined to the ports of their cores."""
     links = []
     for name, row in rows(file, "link"):
         given = row.get("from_file")
@@ -252,8 +272,35 @@ def build(file, folder):
             by_name[row["from"]].puts[row["from_port"]] = link
         if "to" in row:
             by_name[row["to"]].gets[row["to_port"]] = link
+    return links
+
+
+def build_uart(name, row, folder):
+    given = load(folder, row["input"], LIMITS["input"]) if "input" in row else b""
+    return devices.Uart(name, row.get("every", 64), given)
+
+
+def build_devices(file, folder, by_name):
+    """Timers, UARTs and controllers, each in the window of its core's bus; the controllers have their inputs."""
+    found = {"timer": [(row, devices.Timer()) for _, row in rows(file, "timer")],
+             "uart": [(row, build_uart(name, row, folder)) for name, row in rows(file, "uart")]}
+    found["intc"] = [(row, devices.Controller([(other["irq"], device) for other, device in found["timer"] + found["uart"]
+                                               if other["core"] == row["core"] and "irq" in other])) for _, row in rows(file, "intc")]
+    for row, device in found["timer"] + found["uart"] + found["intc"]:
+        by_name[row["core"]].bus.windows[row["base"]] = device
+    for row, device in found["intc"]:
+        by_name[row["core"]].bus.controller = device
+    return [[device for _, device in found[kind]] for kind in ("timer", "uart", "intc")]
+
+
+def build(file, folder):
+    """The board of a file; images, inputs of links and inputs of UARTs are read in board order."""
+    cores = [(name, row.get("clock", 1), view(load(folder, row["image"], LIMITS["image"]), name, row, file.get("network", False)), Ports())
+             for name, row in rows(file, "core")]
+    by_name = {name: ports for name, _, _, ports in cores}
+    links = build_links(file, folder, by_name)
     events = [(by_name[row["core"]], row["cycle"], row["kind"]) for _, row in rows(file, "event")]
-    return Board(cores, links, events, file.get("order", "ascending"))
+    return Board(cores, links, events, file.get("order", "ascending"), *build_devices(file, folder, by_name))
 
 
 def run(folder, name, cycles=CYCLES, entries=ENTRIES, journal=None):
@@ -264,13 +311,12 @@ def run(folder, name, cycles=CYCLES, entries=ENTRIES, journal=None):
             raise Refused(6, f"board {fault[0]} at {fault[1].decode(errors='replace')}")
         if journal in file_names(file):
             raise Refused(4, "usage")
-        if not_yet(file):
-            raise Refused(17, f"not built at {not_yet(file)}")
         board = build(file, folder)
     except Refused as refused:
         return Outcome(refused.status, err=f"mbsim: {refused.line}\n")
     status = board.run(cycles, entries)
     files = {link.to_file: bytes_of(link.left) for link in board.links if link.to_file is not None}
+    files |= {row["output"]: bytes(uart.left) for (_, row), uart in zip(rows(file, "uart"), board.uarts)}
     if journal:
         files[journal] = "".join(board.journal).encode()
     return Outcome(status, board.report(status), files=files)

@@ -18,8 +18,9 @@ ROWS = {name: (form, bits) for name, form, bits in core.ROWS}
 SUMS = ("add rsub addc addk addik rsubik addic cmp cmpu mul mulhu muli bsrl bsra bslli bsrai idiv idivu or xori andi pcmpbf pcmpne sra src "
         "sext8 wdc wic").split()
 BRANCHES = "beqid bneid bltid bgeid brid beqi bgti".split()
+HANDLER = 0x900  # of interrupts
 # the words from 10 hex on: an interrupt's vector, a break's, and a handler that sends the cause and goes on
-VECTORS = [NOTHING, NOTHING, 0xB6500000, 0x30420001, 0x94608005, 0x6C03C000, 0x30210001, 0xB6910000, NOTHING]
+VECTORS = [0xB8080000 | HANDLER, NOTHING, 0xB6500000, 0x30420001, 0x94608005, 0x6C03C000, 0x30210001, 0xB6910000, NOTHING]
 WITHOUT_N = [word & ~0x4000 if word == 0x6C03C000 else word for word in VECTORS]
 
 
@@ -176,6 +177,9 @@ def random_image(chance, ports, network):
 
 # random boards
 
+NAMES = ["a", "b_1", "c9", "zz", "m", "_q"]
+
+
 def random_links(chance, names):
     """Link tables, and for each core the ports of its gets and puts that lead somewhere."""
     ports = {name: {"get": [], "put": []} for name in names}
@@ -202,23 +206,27 @@ def random_links(chance, names):
     return tables, ports
 
 
-def random_board(seed, folder, network=None):
-    """Writes a board with its images and inputs, mostly with pipelines mixed; answers the words to run it with."""
-    chance = random.Random(seed)
-    names = chance.sample(["a", "b_1", "c9", "zz", "m", "_q"], chance.randrange(1, 5))
-    network = chance.random() < 0.25 if network is None else network
-    tables, ports = random_links(chance, names)
-    mix = chance.choice((timing.PIPELINES, timing.PIPELINES, timing.PIPELINES[:1], timing.PIPELINES[1:]))
-    for name in names:
-        pathlib.Path(folder, f"{name}.elf").write_bytes(random_image(chance, ports[name], network))
-        rows = [f"[core.{name}]", f'image = "{name}.elf"', f'pipeline = "{chance.choice(mix)}"'] + [f"clock = {chance.randrange(1, 5)}"] * (chance.random() < 0.4)
-        tables.append("\n".join(rows + [f"memory = {chance.choice((4096, 8192))}"] * (chance.random() < 0.5)))
-    cycle = 0
-    for number in range(0 if network else chance.choice((0, 0, 1, 3, 6, 12))):
-        # often two at once
+def core_table(chance, name, pipelines):
+    rows = [f"[core.{name}]", f'image = "{name}.elf"', f'pipeline = "{chance.choice(pipelines)}"'] + [f"clock = {chance.randrange(1, 5)}"] * (chance.random() < 0.4)
+    return "\n".join(rows + [f"memory = {chance.choice((4096, 8192))}"] * (chance.random() < 0.5))
+
+
+def event_tables(chance, names):
+    """Breaks, often two at once."""
+    tables, cycle = [], 0
+    for number in range(chance.choice((0, 0, 1, 3, 6, 12))):
         cycle = chance.choice((cycle, chance.randrange(90), chance.randrange(300)))
         tables.append(f'[event.e{number}]\ncore = "{chance.choice(names)}"\ncycle = {cycle}\n'
                       f'kind = "{chance.choice(("break", "break", "nonmaskable"))}"')
+    return tables
+
+
+def some_pipelines(chance):
+    return chance.choice((timing.PIPELINES, timing.PIPELINES, timing.PIPELINES[:1], timing.PIPELINES[1:]))
+
+
+def write_board(chance, folder, tables, network=False):
+    """Writes a board file, and two input files for links; answers the words to run it with."""
     chance.shuffle(tables)
     top = [f'order = "{chance.choice(("ascending", "descending", "rotating"))}"'] * (chance.random() < 0.8) + ["network = true"] * network
     pathlib.Path(folder, "board.toml").write_text("\n".join(["version = 1"] + top + tables) + "\n")
@@ -226,6 +234,19 @@ def random_board(seed, folder, network=None):
         items = [(chance.random() < 0.2, chance.getrandbits(chance.choice((3, 32)))) for _ in range(chance.randrange(10, 60))]
         pathlib.Path(folder, f"in{number}").write_bytes(board.bytes_of(items))
     return random_words(chance)
+
+
+def random_board(seed, folder, network=None):
+    """Writes a board with its images and inputs, mostly with pipelines mixed; answers the words to run it with."""
+    chance = random.Random(seed)
+    names = chance.sample(NAMES, chance.randrange(1, 5))
+    network = chance.random() < 0.25 if network is None else network
+    tables, ports = random_links(chance, names)
+    pipelines = some_pipelines(chance)
+    for name in names:
+        pathlib.Path(folder, f"{name}.elf").write_bytes(random_image(chance, ports[name], network))
+        tables.append(core_table(chance, name, pipelines))
+    return write_board(chance, folder, tables + ([] if network else event_tables(chance, names)), network)
 
 
 def change_pipelines(seed, folder, pipelines):

@@ -174,7 +174,7 @@ def document():
 
 def stages_agree():
     """The directed programs, with their breaks, go through the stages as the table says: `Alone` looks in each tick."""
-    for what, words, breaks in directed_boards.programs():
+    for what, words, breaks in directed_boards.WITHOUT_DEVICES:
         for pipeline in timing.PIPELINES[1:]:
             done = Alone(pipeline, [0xB8080040], breaks, [(0x10, VECTORS), (0x40, words)], directed_boards.ITEMS, 150)
             assert done.acted_in, what

@@ -4,3 +4,4 @@ mod Limits
 mod Boards
 mod Exact
 mod FairRuns
+mod RawSays

@@ -16,7 +16,7 @@ pub(crate) struct Row<'a> {
     pub(crate) head: &'a str,
     /// The other lines of the board file.
     pub(crate) parts: &'a str,
-    /// The words of the images `a.elf` and `b.elf` from address 0 on, as hexadecimal digits.
+    /// The images `a.elf` and `b.elf`, as hexadecimal digits: whole files, or the words from address 0 on.
     pub(crate) images: [&'a str; 2],
     /// The bytes of the file `in`.
     pub(crate) input: &'a [u8],
@@ -124,9 +124,12 @@ impl<'a> Row<'a> {
 const ELF_HEAD: &str =
     "7F454C46 01020100 00000000 00000000 000200BD 00000001 00000000 00000034 00000000 00000000 00340020 00010000 00000000 00000001 00000054 00000000 00000000";
 
-/// The executable with these words at address 0.
+/// A whole executable, or that with these words at address 0.
 fn elf(alloc: Global, words: &str) -> Result<Vec<u8>, Fail> {
     let code = assembled(alloc, words)?;
+    if words.starts_with("7F454C46") {
+        return Ok(code);
+    }
     let size = u32::try_from(code.len())
         .map_err(|_| "a size")?
         .to_be_bytes();
