@@ -7,7 +7,8 @@ use Rattle.std.specs.Option.{option_to_list}
 use Rattle.std.specs.Str.{bytes_eq}
 use Rattle.clap.specs.Walk.{Row, Text, first_of, has_row}
 use Rattle.clap.specs.declared.parser.matches.ValueSource.TheVariants.{CommandLine}
-use Rattle.command_words.proofs.Rows.{knows, plain_reading, put}
+use Rattle.clap.specs.declared.builder.value_parser.Reading.{Reading}
+use Rattle.command_words.proofs.Rows.{knows, put}
 
 -- ---- tests
 
@@ -17,7 +18,7 @@ same_text n = (bytes_eq-Decides n n).1 refl
 pub text_is : (a b : Text) → bytes_eq a b ≡ true → a ≡ b
 text_is a b e = (bytes_eq-Decides a b).0 e
 
-neither : (a b : Bool) → (a || b) ≡ false → (a ≡ false) × (b ≡ false)
+pub neither : (a b : Bool) → (a || b) ≡ false → (a ≡ false) × (b ≡ false)
 neither false b e = (refl, e)
 neither true b e = absurd (false≢true (sym e))
 
@@ -30,14 +31,14 @@ differ a b other = differ_by a b (bytes_eq b a) refl other
 
 -- ---- a row at the end
 
-abbrev pub row : Text → Text → Row
-row n v = record { id = n; values = v ∷ []; count = None; source = Some CommandLine; reading = plain_reading }
+abbrev pub row : Reading → Text → Text → Row
+row how n v = record { id = n; values = v ∷ []; count = None; source = Some CommandLine; reading = how }
 
-pub put_new : (n v : Text) (rows : List Row) → has_row n rows ≡ false → put n v rows ≡ rows ++ row n v ∷ []
-put_new n v [] new = refl
-put_new n v (r ∷ rs) new =
+pub put_new : (how : Reading) (n v : Text) (rows : List Row) → has_row n rows ≡ false → put how n v rows ≡ rows ++ row how n v ∷ []
+put_new how n v [] new = refl
+put_new how n v (r ∷ rs) new =
     let (here, others) = neither (bytes_eq r.id n) (has_row n rs) new in
-    rw (here, here) (ap (λ rows. r ∷ rows) (put_new n v rs others))
+    rw (here, here) (ap (λ rows. r ∷ rows) (put_new how n v rs others))
 
 pub no_row : (n : Text) (rows : List Row) → has_row n rows ≡ false → first_of n rows ≡ None
 no_row n [] new = refl
@@ -45,26 +46,26 @@ no_row n (r ∷ rs) new =
     let (here, others) = neither (bytes_eq r.id n) (has_row n rs) new in
     rw here (no_row n rs others)
 
-first_step : (m : Text) (r : Row) (rs ss : List Row) (b : Bool) → bytes_eq r.id m ≡ b → first_of m rs ≡ first_of m ss → first_of m (r ∷ rs) ≡ first_of m (r ∷ ss)
+pub first_step : (m : Text) (r : Row) (rs ss : List Row) (b : Bool) → bytes_eq r.id m ≡ b → first_of m rs ≡ first_of m ss → first_of m (r ∷ rs) ≡ first_of m (r ∷ ss)
 first_step m r rs ss true e more = rw e refl
 first_step m r rs ss false e more = rw e more
 
-pub first_other : (n m v : Text) (rows : List Row) → bytes_eq n m ≡ false → first_of m (rows ++ row n v ∷ []) ≡ first_of m rows
-first_other n m v [] other = rw other refl
-first_other n m v (r ∷ rs) other = first_step m r (rs ++ row n v ∷ []) rs (bytes_eq r.id m) refl (first_other n m v rs other)
+pub first_other : (how : Reading) (n m v : Text) (rows : List Row) → bytes_eq n m ≡ false → first_of m (rows ++ row how n v ∷ []) ≡ first_of m rows
+first_other how n m v [] other = rw other refl
+first_other how n m v (r ∷ rs) other = first_step m r (rs ++ row how n v ∷ []) rs (bytes_eq r.id m) refl (first_other how n m v rs other)
 
-pub first_same : (n v : Text) (rows : List Row) → has_row n rows ≡ false → first_of n (rows ++ row n v ∷ []) ≡ Some v
-first_same n v [] new = rw (same_text n) refl
-first_same n v (r ∷ rs) new =
+pub first_same : (how : Reading) (n v : Text) (rows : List Row) → has_row n rows ≡ false → first_of n (rows ++ row how n v ∷ []) ≡ Some v
+first_same how n v [] new = rw (same_text n) refl
+first_same how n v (r ∷ rs) new =
     let (here, others) = neither (bytes_eq r.id n) (has_row n rs) new in
-    rw here (first_same n v rs others)
+    rw here (first_same how n v rs others)
 
 has_step : (m : Text) (r : Row) (rs ss : List Row) → has_row m rs ≡ has_row m ss → has_row m (r ∷ rs) ≡ has_row m (r ∷ ss)
 has_step m r rs ss more = ap (λ b. bytes_eq r.id m || b) more
 
-pub has_other : (n m v : Text) (rows : List Row) → bytes_eq n m ≡ false → has_row m (rows ++ row n v ∷ []) ≡ has_row m rows
-has_other n m v [] other = rw other refl
-has_other n m v (r ∷ rs) other = has_step m r (rs ++ row n v ∷ []) rs (has_other n m v rs other)
+pub has_other : (how : Reading) (n m v : Text) (rows : List Row) → bytes_eq n m ≡ false → has_row m (rows ++ row how n v ∷ []) ≡ has_row m rows
+has_other how n m v [] other = rw other refl
+has_other how n m v (r ∷ rs) other = has_step m r (rs ++ row how n v ∷ []) rs (has_other how n m v rs other)
 
 -- ---- the places
 
@@ -114,19 +115,19 @@ left_known ps p left rows [] f = rw f.0 (rw (same_text p) refl)
 left_known [] p left rows (x ∷ xs) f = absurd f
 left_known (q ∷ ps) p left rows (x ∷ xs) f = or_right (bytes_eq q p) (knows ps p) (left_known ps p left rows xs f.1)
 
-free_more : (ps : List Text) (n v : Text) (rows : List Row) → knows ps n ≡ false → Free ps rows → Free ps (rows ++ row n v ∷ [])
-free_more [] n v rows other free = tt
-free_more (p ∷ ps) n v rows other free =
+free_more : (how : Reading) (ps : List Text) (n v : Text) (rows : List Row) → knows ps n ≡ false → Free ps rows → Free ps (rows ++ row how n v ∷ [])
+free_more how [] n v rows other free = tt
+free_more how (p ∷ ps) n v rows other free =
     let (here, others) = neither (bytes_eq p n) (knows ps n) other in
-    (has_other n p v rows (differ p n here) ∙ free.0, free_more ps n v rows others free.1)
+    (has_other how n p v rows (differ p n here) ∙ free.0, free_more how ps n v rows others free.1)
 
 -- a row of what is no place
-pub filled_other : (ps left : List Text) (n v : Text) (rows : List Row) (xs : List Text) → knows ps n ≡ false → Filled ps left rows xs → Filled ps left (rows ++ row n v ∷ []) xs
-filled_other ps left n v rows [] other f = (f.0, free_more left n v rows (subst (λ qs. knows qs n ≡ false) f.0 other) f.1)
-filled_other [] left n v rows (x ∷ xs) other f = absurd f
-filled_other (p ∷ ps) left n v rows (x ∷ xs) other f =
+pub filled_other : (how : Reading) (ps left : List Text) (n v : Text) (rows : List Row) (xs : List Text) → knows ps n ≡ false → Filled ps left rows xs → Filled ps left (rows ++ row how n v ∷ []) xs
+filled_other how ps left n v rows [] other f = (f.0, free_more how left n v rows (subst (λ qs. knows qs n ≡ false) f.0 other) f.1)
+filled_other how [] left n v rows (x ∷ xs) other f = absurd f
+filled_other how (p ∷ ps) left n v rows (x ∷ xs) other f =
     let (here, others) = neither (bytes_eq p n) (knows ps n) other in
-    (first_other n p v rows (differ p n here) ∙ f.0, filled_other ps left n v rows xs others f.1)
+    (first_other how n p v rows (differ p n here) ∙ f.0, filled_other how ps left n v rows xs others f.1)
 
 no_text : (x : Text) → Some x ≡ None → ⊥
 no_text x e = let bad : Some x ≡ None = e in grind arith
@@ -136,14 +137,14 @@ apart : (p q x : Text) (rows : List Row) (b : Bool) → bytes_eq p q ≡ b → h
 apart p q x rows false e new is = refl
 apart p q x rows true e new is = absurd (no_text x (sym is ∙ ap (λ r. first_of r rows) (sym (text_is p q e)) ∙ no_row p rows new))
 
-first_filled : (p : Text) (left : List Text) (w : Text) (rows : List Row) → Distinct (p ∷ left) → Free (p ∷ left) rows → Filled (p ∷ left) left (rows ++ row p w ∷ []) (w ∷ [])
-first_filled p left w rows distinct free = (first_same p w rows free.0, (refl, free_more left p w rows distinct.0 free.1))
+first_filled : (how : Reading) (p : Text) (left : List Text) (w : Text) (rows : List Row) → Distinct (p ∷ left) → Free (p ∷ left) rows → Filled (p ∷ left) left (rows ++ row how p w ∷ []) (w ∷ [])
+first_filled how p left w rows distinct free = (first_same how p w rows free.0, (refl, free_more how left p w rows distinct.0 free.1))
 
 -- a row of the first place that is left
-pub filled_more : (ps : List Text) (p : Text) (left : List Text) (w : Text) (rows : List Row) (xs : List Text) → Distinct ps → Filled ps (p ∷ left) rows xs
-    → Filled ps left (rows ++ row p w ∷ []) (xs ++ w ∷ [])
-filled_more ps p left w rows [] distinct f =
-    subst (λ qs. Filled qs left (rows ++ row p w ∷ []) (w ∷ [])) (sym f.0) (first_filled p left w rows (subst Distinct f.0 distinct) f.1)
-filled_more [] p left w rows (x ∷ xs) distinct f = absurd f
-filled_more (q ∷ ps) p left w rows (x ∷ xs) distinct f =
-    (first_other p q w rows (apart p q x rows (bytes_eq p q) refl (left_free ps p left rows xs f.1) f.0) ∙ f.0, filled_more ps p left w rows xs distinct.1 f.1)
+pub filled_more : (how : Reading) (ps : List Text) (p : Text) (left : List Text) (w : Text) (rows : List Row) (xs : List Text) → Distinct ps → Filled ps (p ∷ left) rows xs
+    → Filled ps left (rows ++ row how p w ∷ []) (xs ++ w ∷ [])
+filled_more how ps p left w rows [] distinct f =
+    subst (λ qs. Filled qs left (rows ++ row how p w ∷ []) (w ∷ [])) (sym f.0) (first_filled how p left w rows (subst Distinct f.0 distinct) f.1)
+filled_more how [] p left w rows (x ∷ xs) distinct f = absurd f
+filled_more how (q ∷ ps) p left w rows (x ∷ xs) distinct f =
+    (first_other how p q w rows (apart p q x rows (bytes_eq p q) refl (left_free ps p left rows xs f.1) f.0) ∙ f.0, filled_more how ps p left w rows xs distinct.1 f.1)

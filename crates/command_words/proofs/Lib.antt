@@ -1,5 +1,8 @@
+pub mod AsmTable
 pub mod Commands
+pub mod Defaults
 pub mod Digits
+pub mod DisTable
 pub mod Filled
 pub mod Law
 pub mod Looks

@@ -1,30 +1,30 @@
 -- The command `raw`, as clap sees it.
-use Rattle.std.proofs.Common.{codes, false, refl, [], ◌∷◌, None}
+use Rattle.std.proofs.Common.{◌≡◌, codes, true, refl, [], ◌∷◌}
 use Rattle.std.proofs.lemmas.Bool.{false≢true}
 use Rattle.clap.proofs.FaultLemmas.{leaf_fault}
 use Rattle.clap.proofs.OnLiterals.{clap_on_literals}
 use Rattle.clap.specs.Simple.{Shape, built}
-use Rattle.clap.specs.Walk.{idle, nothing_held}
+use Rattle.clap.specs.Walk.{nothing_held}
 use Rattle.command_words.specs.Splits.{raw_app}
 use Rattle.command_words.proofs.Law.{IsPlainApp}
-use Rattle.command_words.proofs.Turns.{at}
-use Rattle.command_words.proofs.Walks.{IsTable, end_rows, finished_none}
+use Rattle.command_words.proofs.Walks.{IsTable, end_rows, no_defaults}
 use Rattle.std.specs.Prelude.{drop}
 
 unfoldable pub raw_top : Shape
 unfolding raw_app clap_on_literals
 raw_top = (built raw_app).top
 
-raw_table : IsTable [] raw_top
+raw_table : IsTable [] [] raw_top
 unfolding raw_top raw_app clap_on_literals
 raw_table = record {
   over = refl;
   short = λ x. refl;
   known = λ n h. absurd (false≢true h);
-  unknown = λ n h. refl;
+  flag = λ n h. absurd (false≢true h);
+  unknown = λ n h g. refl;
 }
 
-pub raw_is : IsPlainApp raw_app raw_top [] (codes "FILE" ∷ codes "CYCLES" ∷ [])
+pub raw_is : IsPlainApp raw_app raw_top [] [] (codes "FILE" ∷ codes "CYCLES" ∷ [])
 unfolding raw_top raw_app clap_on_literals end_rows
 raw_is = record {
   table = raw_table;
@@ -37,5 +37,9 @@ raw_is = record {
   defaults = refl;
   free = λ rows. refl;
   level = λ words. leaf_fault (built raw_app) nothing_held (drop 1 words) refl;
-  rows = λ words. finished_none raw_top.rules (end_rows raw_top (at [] None idle 1 false) (drop 1 words)) refl;
+  rows = λ words. refl;
 }
+
+pub raw_defaults : no_defaults raw_top.rules ≡ true
+unfolding raw_top raw_app clap_on_literals
+raw_defaults = refl

@@ -7,11 +7,11 @@ use Rattle.std.specs.Str.{bytes_eq}
 use Rattle.clap.proofs.FaultLemmas.{leaf_fault}
 use Rattle.clap.proofs.OnLiterals.{clap_on_literals}
 use Rattle.clap.specs.Simple.{Shape, built}
-use Rattle.clap.specs.Walk.{Rule, Text, arg_by_long, idle, nothing_held}
+use Rattle.clap.specs.Walk.{Rule, Text, arg_by_long, nothing_held}
 use Rattle.command_words.specs.Splits.{run_app}
 use Rattle.command_words.proofs.Law.{IsPlainApp}
-use Rattle.command_words.proofs.Turns.{IsPlain, at}
-use Rattle.command_words.proofs.Walks.{IsTable, end_rows, finished_none}
+use Rattle.command_words.proofs.Turns.{IsPlain}
+use Rattle.command_words.proofs.Walks.{IsTable, end_rows, no_defaults}
 
 unfoldable pub run_top : Shape
 unfolding run_app clap_on_literals
@@ -48,16 +48,17 @@ unknown_one n false false false is_a is_b is_c h = rw (is_a, is_b, is_c) refl
 abbrev pub run_options : List Text
 run_options = codes "cycles" ∷ codes "journal" ∷ codes "write-journal" ∷ []
 
-run_table : IsTable run_options run_top
+run_table : IsTable run_options [] run_top
 unfolding run_top run_app clap_on_literals
 run_table = record {
   over = refl;
   short = λ x. refl;
   known = λ n h. known_one n (bytes_eq (codes "cycles") n) (bytes_eq (codes "journal") n) (bytes_eq (codes "write-journal") n) refl refl refl h;
-  unknown = λ n h. unknown_one n (bytes_eq (codes "cycles") n) (bytes_eq (codes "journal") n) (bytes_eq (codes "write-journal") n) refl refl refl h;
+  flag = λ n h. absurd (false≢true h);
+  unknown = λ n h g. unknown_one n (bytes_eq (codes "cycles") n) (bytes_eq (codes "journal") n) (bytes_eq (codes "write-journal") n) refl refl refl h;
 }
 
-pub run_is : IsPlainApp run_app run_top run_options (codes "BOARD" ∷ [])
+pub run_is : IsPlainApp run_app run_top run_options [] (codes "BOARD" ∷ [])
 unfolding run_top run_app clap_on_literals end_rows
 run_is = record {
   table = run_table;
@@ -65,5 +66,9 @@ run_is = record {
   defaults = refl;
   free = λ rows. refl;
   level = λ words. leaf_fault (built run_app) nothing_held (drop 1 words) refl;
-  rows = λ words. finished_none run_top.rules (end_rows run_top (at [] None idle 1 false) (drop 1 words)) refl;
+  rows = λ words. refl;
 }
+
+pub run_defaults : no_defaults run_top.rules ≡ true
+unfolding run_top run_app clap_on_literals
+run_defaults = refl

@@ -2,7 +2,7 @@
 use Rattle.std.proofs.Common.{◌≡◌, true, refl}
 use Rattle.clap.specs.Words.{is_simple, is_simple_and_free}
 use Rattle.clap.proofs.OnLiterals.{clap_on_literals}
-use Rattle.command_words.specs.Splits.{raw_app, run_app}
+use Rattle.command_words.specs.Splits.{asm_app, dis_app, raw_app, run_app}
 
 pub raw_is_simple : is_simple raw_app ≡ true
 unfolding raw_app clap_on_literals
@@ -19,3 +19,19 @@ run_is_simple = refl
 pub run_is_free : is_simple_and_free run_app ≡ true
 unfolding run_app clap_on_literals
 run_is_free = refl
+
+pub asm_is_simple : is_simple asm_app ≡ true
+unfolding asm_app clap_on_literals
+asm_is_simple = refl
+
+pub asm_is_free : is_simple_and_free asm_app ≡ true
+unfolding asm_app clap_on_literals
+asm_is_free = refl
+
+pub dis_is_simple : is_simple dis_app ≡ true
+unfolding dis_app clap_on_literals
+dis_is_simple = refl
+
+pub dis_is_free : is_simple_and_free dis_app ≡ true
+unfolding dis_app clap_on_literals
+dis_is_free = refl

@@ -2,7 +2,8 @@
 use Rattle.std.proofs.Common.{◌≡◌, ℕ, ◌<◌, ◌≤◌, ◌&&◌, ◌||◌, ◌++◌, Bool, true, false, codes, refl, sym, ap, subst, arith, length, List, [], ◌∷◌, Option, Some, None, if◌then◌else◌, nat_le, option_map}
 use Rattle.std.proofs.lemmas.Bool.{false≢true}
 use Rattle.std.specs.Str.{bytes_eq}
-use Rattle.command_words.specs.Words.{Text, at_most_once, decimal_value, file_in, is_one_of, number_in, raw_form, raw_of, raw_with, run_form, run_of, run_with, most_cycles, most_entries}
+use Rattle.command_words.specs.Words.{Text, asm_form, asm_of, asm_with, at_most_once, decimal_value, dis_form, dis_with, file_in, is_one_of, is_raised, number_in, raised_value, raw_form, raw_of, raw_with, run_form, run_of, run_with, most_cycles, most_entries}
+use Rattle.command_words.specs.declared.command.Command.TheVariants.{Dis}
 use Rattle.command_words.proofs.Filled.{text_is}
 use Rattle.command_words.proofs.Meanings.{IsSound}
 
@@ -153,4 +154,83 @@ run_sound = record {
   twice = λ xs f n is long. run_bad xs f n is (bad_twice (f n) long);
   place = λ front rest back f. run_dash front rest back _ _ _;
   value = λ xs f n front rest back is e. run_bad xs f n is (subst Bad (sym e) (bad_dash front rest back));
+}
+
+-- ---- `asm`
+
+asm_many : (xs little : List Text) → 2 < length xs → asm_with xs little ≡ None
+asm_many [] little long = refl
+asm_many (a ∷ []) little long = refl
+asm_many (a ∷ b ∷ []) little long = absurd (omega arith)
+asm_many (a ∷ b ∷ c ∷ xs) little long = refl
+
+no_output : (source : Option Text) (little : Option Bool) → asm_of source None little ≡ None
+no_output None little = refl
+no_output (Some source) little = refl
+
+no_order : (source output : Option Text) → asm_of source output None ≡ None
+no_order None output = refl
+no_order (Some source) None = refl
+no_order (Some source) (Some output) = refl
+
+asm_twice : (xs little : List Text) → 2 ≤ length little → asm_with xs little ≡ None
+asm_twice [] little long = refl
+asm_twice (a ∷ []) little long = refl
+asm_twice (a ∷ b ∷ []) little long =
+    rw (twice_none false (λ text. Some (bytes_eq text raised_value)) little long) (no_order (file_in a) (file_in b))
+asm_twice (a ∷ b ∷ c ∷ xs) little long = refl
+
+asm_dash : (front : List Text) (rest : Text) (back little : List Text) → asm_with (front ++ (45 ∷ rest) ∷ back) little ≡ None
+asm_dash [] rest [] little = refl
+asm_dash [] rest (b ∷ []) little = rw (file_dash rest) refl
+asm_dash [] rest (b ∷ c ∷ back) little = refl
+asm_dash (a ∷ []) rest [] little = rw (file_dash rest) (no_output (file_in a) (is_raised little))
+asm_dash (a ∷ []) rest (b ∷ back) little = refl
+asm_dash (a ∷ b ∷ []) rest back little = refl
+asm_dash (a ∷ b ∷ c ∷ front) rest back little = refl
+
+-- what holds of the flag
+flag_is : (P : Text → Type 0) → P (codes "little") → (n : Text) (b : Bool) → bytes_eq (codes "little") n ≡ b → (b || false) ≡ true → P n
+flag_is P p n true is h = subst P (text_is (codes "little") n is) p
+flag_is P p n false is h = absurd (false≢true h)
+
+asm_again : (xs : List Text) (f : Text → List Text) (n : Text) → is_one_of (codes "little" ∷ []) n ≡ true → 2 ≤ length (f n) → asm_with xs (f (codes "little")) ≡ None
+asm_again xs f n is =
+    flag_is (λ m. 2 ≤ length (f m) → asm_with xs (f (codes "little")) ≡ None) (asm_twice xs (f (codes "little"))) n (bytes_eq (codes "little") n) refl is
+
+pub asm_sound : IsSound asm_form (codes "SOURCE" ∷ codes "OUTPUT" ∷ [])
+unfolding asm_form
+asm_sound = record {
+  distinct = (refl, (refl, tt));
+  apart = λ n is. flag_is (λ m. is_one_of (codes "SOURCE" ∷ codes "OUTPUT" ∷ []) m ≡ false) refl n (bytes_eq (codes "little") n) refl is;
+  same = λ xs f g e. ap (asm_with xs) (e (codes "little") refl);
+  many = λ xs f long. asm_many xs _ long;
+  twice = λ xs f n is long. asm_again xs f n is long;
+  place = λ front rest back f. asm_dash front rest back _;
+  value = λ xs f n front rest back is. absurd (false≢true is);
+}
+
+-- ---- `dis`
+
+dis_many : (xs : List Text) → 1 < length xs → dis_with xs ≡ None
+dis_many [] long = refl
+dis_many (a ∷ []) long = absurd (omega arith)
+dis_many (a ∷ b ∷ xs) long = refl
+
+dis_dash : (front : List Text) (rest : Text) (back : List Text) → dis_with (front ++ (45 ∷ rest) ∷ back) ≡ None
+dis_dash [] rest [] = ap (option_map (λ image. Dis image)) (file_dash rest)
+dis_dash [] rest (b ∷ back) = refl
+dis_dash (a ∷ []) rest back = refl
+dis_dash (a ∷ b ∷ front) rest back = refl
+
+pub dis_sound : IsSound dis_form (codes "IMAGE" ∷ [])
+unfolding dis_form
+dis_sound = record {
+  distinct = (refl, tt);
+  apart = λ n is. absurd (false≢true is);
+  same = λ xs f g e. refl;
+  many = λ xs f long. dis_many xs long;
+  twice = λ xs f n is. absurd (false≢true is);
+  place = λ front rest back f. dis_dash front rest back;
+  value = λ xs f n front rest back is. absurd (false≢true is);
 }

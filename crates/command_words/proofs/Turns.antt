@@ -1,4 +1,4 @@
--- One word's turn in clap's walk, for a table of plain rules.
+-- One word's turn in clap's walk, for a table of plain rules and of flags.
 use Rattle.std.proofs.Common.{◌≡◌, ℕ, ◌+◌, Bool, ◌&&◌, true, false, refl, sym, ap, List, [], ◌∷◌, arith, length, min, Option, Some, None, is_some, if◌then◌else◌}
 use Rattle.std.proofs.lemmas.Bool.{false≢true}
 use Rattle.std.proofs.lemmas.Slice.Eq.{bytes_eq-Decides}
@@ -12,10 +12,11 @@ use Rattle.clap.specs.Kinds.{Kinds, or_else}
 use Rattle.clap.proofs.FaultLemmas.{fault_ends}
 use Rattle.clap.proofs.WalkLemmas.{bundle_ends}
 use Rattle.clap.specs.Faults.{bundle_fault, flags_fault, positional_fault, stray_fault, turn_fault, settle_fault, use_fault}
-use Rattle.clap.specs.declared.builder.action.ArgAction.TheVariants.{Set}
+use Rattle.clap.specs.declared.builder.action.ArgAction.TheVariants.{Set, SetTrue}
 use Rattle.clap.specs.declared.builder.value_parser.ValueParser.TheVariants as vp
 use Rattle.clap.specs.declared.error.kind.ErrorKind.TheVariants as kind
-use Rattle.command_words.proofs.Rows.{dashes, is_flags, put}
+use Rattle.command_words.specs.Words.{raised_value}
+use Rattle.command_words.proofs.Rows.{dashes, flag_reading, is_flags, plain_reading, put}
 
 -- an argument that takes one text
 pub record IsPlain (c : List Rule) (n : Text) (a : Rule) : Type 0 where
@@ -25,6 +26,14 @@ pub record IsPlain (c : List Rule) (n : Text) (a : Rule) : Type 0 where
   pub range : a.range ≡ Some (record { start_inclusive = 1; end_inclusive = 1 })
   pub parser : a.parser ≡ Some vp.String
   pub trailing : a.trailing_var_arg ≡ false
+
+-- a flag: it takes no text, and stands for the text `true`
+pub record IsFlag (c : List Rule) (n : Text) (a : Rule) : Type 0 where
+  pub id : a.id ≡ n
+  pub action : a.action ≡ Some SetTrue
+  pub range : a.range ≡ Some (record { start_inclusive = 0; end_inclusive = 0 })
+  pub parser : a.parser ≡ Some vp.Bool
+  pub missing : a.missing ≡ raised_value ∷ []
 
 abbrev pub at : List Row → Option (Text × List Text) → Waiting → ℕ → Bool → Walk
 at rows pending waiting position trailing = record {
@@ -38,7 +47,7 @@ at rows pending waiting position trailing = record {
 abbrev pub hold : List Row → Option (Text × List Text) → Held
 hold rows pending = record { rows = rows; pending = pending; skip = 0 }
 
-pub used_plain : (c : List Rule) (n : Text) (a : Rule) (v : Text) (rows : List Row) → IsPlain c n a → used a (v ∷ []) rows ≡ put n v rows
+pub used_plain : (c : List Rule) (n : Text) (a : Rule) (v : Text) (rows : List Row) → IsPlain c n a → used a (v ∷ []) rows ≡ put plain_reading n v rows
 used_plain c n a v rows p = rw (p.action, p.id, p.parser) refl
 
 pub use_new : (c : List Rule) (n : Text) (a : Rule) (v : Text) (rows : List Row) → IsPlain c n a → has_row n rows ≡ false → use_fault false a (v ∷ []) rows ≡ []
@@ -49,6 +58,15 @@ use_again c n a v rows p again = rw (p.action, p.id, p.parser, p.range, again) r
 
 pub use_bare : (c : List Rule) (n : Text) (a : Rule) (rows : List Row) → IsPlain c n a → use_fault false a [] rows ≡ kind.InvalidValue ∷ []
 use_bare c n a rows p = rw (p.action, p.id, p.parser, p.range) refl
+
+pub used_flag : (c : List Rule) (n : Text) (a : Rule) (rows : List Row) → IsFlag c n a → used a [] rows ≡ put flag_reading n raised_value rows
+used_flag c n a rows p = rw (p.action, p.id, p.parser, p.missing) refl
+
+pub raise_new : (c : List Rule) (n : Text) (a : Rule) (rows : List Row) → IsFlag c n a → has_row n rows ≡ false → use_fault false a [] rows ≡ []
+raise_new c n a rows p new = rw (p.action, p.id, p.parser, p.range, p.missing, new) refl
+
+pub raise_again : (c : List Rule) (n : Text) (a : Rule) (rows : List Row) → IsFlag c n a → has_row n rows ≡ true → use_fault false a [] rows ≡ kind.ArgumentConflict ∷ []
+raise_again c n a rows p again = rw (p.action, p.id, p.parser, p.range, p.missing, again) refl
 
 -- ---- what is pending
 
@@ -61,7 +79,7 @@ settle_again c n a v rows p again = rw p.here (use_again c n a v rows p again)
 pub settle_bare : (c : List Rule) (n : Text) (a : Rule) (rows : List Row) → IsPlain c n a → settle_fault c false (hold rows (Some (n, []))) ≡ kind.InvalidValue ∷ []
 settle_bare c n a rows p = rw p.here (use_bare c n a rows p)
 
-pub settled_rows_are : (c : List Rule) (n : Text) (a : Rule) (v : Text) (rows : List Row) → IsPlain c n a → settled c (hold rows (Some (n, v ∷ []))) ≡ hold (put n v rows) None
+pub settled_rows_are : (c : List Rule) (n : Text) (a : Rule) (v : Text) (rows : List Row) → IsPlain c n a → settled c (hold rows (Some (n, v ∷ []))) ≡ hold (put plain_reading n v rows) None
 settled_rows_are c n a v rows p = rw p.here (ap (λ r. hold r None) (used_plain c n a v rows p))
 
 -- ---- `--`
@@ -99,6 +117,24 @@ pub long_bare_walked : (c : List Rule) (rows : List Row) (pending : Option (Text
     → walked c [] (at rows pending idle position false) w ≡ at (settled c (hold rows pending)).rows (Some (n, [])) (option n) position false
 unfolding walked
 long_bare_walked c rows pending position w n a other long found p = rw (other, long, found, p.range, p.id) refl
+
+pub long_flag_fault : (s : Shape) (rows : List Row) (pending : Option (Text × List Text)) (waiting : Waiting) (position : ℕ) (w n : Text) (a : Rule)
+    → s.args_override_self ≡ false → subcommand_met [] waiting w ≡ None → bytes_eq w dashes ≡ false → long_of w ≡ Some (n, None) → arg_by_long s.rules n ≡ Some a → IsFlag s.rules n a
+    → turn_fault s [] (at rows pending waiting position false) w
+    ≡ or_else (or_else (settle_fault s.rules false (hold rows pending)) (use_fault false a [] (settled s.rules (hold rows pending)).rows)) []
+long_flag_fault s rows pending waiting position w n a over sub other long found p = rw (sub, other, long, found, over, p.range) refl
+
+pub long_flag_walked : (c : List Rule) (rows : List Row) (pending : Option (Text × List Text)) (position : ℕ) (w n : Text) (a : Rule)
+    → bytes_eq w dashes ≡ false → long_of w ≡ Some (n, None) → arg_by_long c n ≡ Some a → IsFlag c n a
+    → walked c [] (at rows pending idle position false) w ≡ at (used a [] (settled c (hold rows pending)).rows) None idle position false
+unfolding walked
+long_flag_walked c rows pending position w n a other long found p = rw (other, long, found, p.range) refl
+
+-- a flag takes no value
+pub long_flag_value_fault : (s : Shape) (rows : List Row) (pending : Option (Text × List Text)) (waiting : Waiting) (position : ℕ) (w n v : Text) (a : Rule)
+    → subcommand_met [] waiting w ≡ None → bytes_eq w dashes ≡ false → long_of w ≡ Some (n, Some v) → arg_by_long s.rules n ≡ Some a → IsFlag s.rules n a
+    → turn_fault s [] (at rows pending waiting position false) w ≡ kind.TooManyValues ∷ []
+long_flag_value_fault s rows pending waiting position w n v a sub other long found p = rw (sub, other, long, found, p.range) refl
 
 pub long_unknown_fault : (s : Shape) (rows : List Row) (pending : Option (Text × List Text)) (waiting : Waiting) (position : ℕ) (w n : Text) (v : Option Text)
     → subcommand_met [] waiting w ≡ None → bytes_eq w dashes ≡ false → long_of w ≡ Some (n, v) → arg_by_long s.rules n ≡ None

@@ -1,11 +1,11 @@
--- The grammar of the command line: a command, and then words in their places and options with values.
-use Rattle.std.specs.Prelude.{ℕ, ◌+◌, ◌*◌, ◌-◌, ◌≡◌, ◌∷◌, ◌&&◌, ◌==◌, [], Bool, List, Option, None, Some, true, Result, Ok, Err, codes, drop, fold, if◌then◌else◌, length, map, nat_le, option_map, take}
+-- The grammar of the command line: a command, and then words in their places, options with values, and flags.
+use Rattle.std.specs.Prelude.{ℕ, ◌+◌, ◌*◌, ◌-◌, ◌≡◌, ◌∷◌, ◌++◌, ◌&&◌, ◌==◌, [], Bool, List, Option, None, Some, false, true, Result, Ok, Err, codes, drop, fold, if◌then◌else◌, length, map, nat_le, option_map, take}
 use Rattle.std.specs.Char.{is_ascii_digit}
 use Rattle.std.specs.List.{after_first, before_first, flat_map, list_all, list_any}
 use Rattle.std.specs.Str.{bytes_eq}
 use Rattle.host_io.specs.Names.{is_file_name}
 use Rattle.command_words.specs.declared.command.Command.{Command}
-use Rattle.command_words.specs.declared.command.Command.TheVariants.{Raw, Run}
+use Rattle.command_words.specs.declared.command.Command.TheVariants.{Asm, Dis, Raw, Run}
 use Rattle.command_words.specs.declared.command.WordsFault.{WordsFault}
 use Rattle.command_words.specs.declared.command.WordsFault.TheVariants.{NoMemory, Usage}
 
@@ -14,10 +14,11 @@ Text = List ℕ
 
 -- ---- what the words are
 
--- what stands after the command: a word in its place, or an option with its value
+-- what stands after the command: a word in its place, an option with its value, or a flag, which has none
 pub data Part : Type 0 where
   placed : Text → Part
   given : Text → Text → Part
+  raised : Text → Part
 
 -- what a word is, before the options end: `--`, the name of an option with or without a value, another word that
 -- begins with `-`, or a word in its place
@@ -47,55 +48,67 @@ look word =
 abbrev pub with_part : Part → Option (List Part) → Option (List Part)
 with_part part parts = option_map (λ ps. part ∷ ps) parts
 
--- the part that the word begins, before the parts of the others, which may begin with the value of an option
-abbrev pub at_look : Look → Text → Option (List Part) → (Text → Option (List Part)) → List Part → Option (List Part)
-at_look closing word others waiting all_placed = Some all_placed
-at_look (naming name (Some value)) word others waiting all_placed = with_part (given name value) others
-at_look (naming name None) word others waiting all_placed = waiting name
-at_look refused word others waiting all_placed = None
-at_look standing word others waiting all_placed = with_part (placed word) others
+abbrev pub is_one_of : List Text → Text → Bool
+is_one_of options name = list_any (λ option. bytes_eq option name) options
 
--- The parts that the words are, where an option may wait for its value: the next word, whatever it is. After `--`
--- each word is in its place.
-unfoldable pub parts : Option Text → List Text → Option (List Part)
-parts None [] = Some []
-parts (Some name) [] = None
-parts None (word ∷ words) = at_look (look word) word (parts None words) (λ name. parts (Some name) words) (map placed words)
-parts (Some name) (word ∷ words) = with_part (given name word) (parts None words)
+-- the part that the word begins, before the parts of the others, which may begin with the value of an option
+abbrev pub at_look : List Text → Look → Text → Option (List Part) → (Text → Option (List Part)) → List Part → Option (List Part)
+at_look flags closing word others waiting all_placed = Some all_placed
+at_look flags (naming name (Some value)) word others waiting all_placed = with_part (given name value) others
+at_look flags (naming name None) word others waiting all_placed = if is_one_of flags name then with_part (raised name) others else waiting name
+at_look flags refused word others waiting all_placed = None
+at_look flags standing word others waiting all_placed = with_part (placed word) others
+
+-- The parts that the words are with these flags, where an option may wait for its value: the next word, whatever it is.
+-- After `--` each word is in its place.
+unfoldable pub parts : List Text → Option Text → List Text → Option (List Part)
+parts flags None [] = Some []
+parts flags (Some name) [] = None
+parts flags None (word ∷ words) = at_look flags (look word) word (parts flags None words) (λ name. parts flags (Some name) words) (map placed words)
+parts flags (Some name) (word ∷ words) = with_part (given name word) (parts flags None words)
 
 -- ---- what a command takes
 
 abbrev pub place_in : Part → List Text
 place_in (placed word) = word ∷ []
 place_in (given name value) = []
+place_in (raised name) = []
+
+-- what a flag counts as: an option with this value
+abbrev pub raised_value : Text
+raised_value = codes "true"
 
 abbrev pub value_in : Text → Part → List Text
 value_in option (placed word) = []
 value_in option (given name value) = if bytes_eq name option then value ∷ [] else []
+value_in option (raised name) = if bytes_eq name option then raised_value ∷ [] else []
 
 -- the words in their places, in order
 abbrev pub places : List Part → List Text
 places ps = flat_map place_in ps
 
--- the values that an option is given, in order
+-- the values that an option is given, in order; one for each time that a flag stands
 abbrev pub values : List Part → Text → List Text
 values ps option = flat_map (value_in option) ps
 
-abbrev pub is_one_of : List Text → Text → Bool
-is_one_of options name = list_any (λ option. bytes_eq option name) options
-
-abbrev pub is_known : List Text → Part → Bool
-is_known options (placed word) = true
-is_known options (given name value) = is_one_of options name
-
--- a command: its options, and what it means by the words in its places and the values of its options
+-- a command: its options with values, its flags, and what it means by the words in its places and the values of these
 pub record Form : Type 0 where
   pub options : List Text
+  pub flags : List Text
   pub meaning : List Text → (Text → List Text) → Option Command
+
+-- the names that may stand behind `--`
+abbrev pub names : Form → List Text
+names form = form.options ++ form.flags
+
+abbrev pub is_known : Form → Part → Bool
+is_known form (placed word) = true
+is_known form (given name value) = is_one_of form.options name
+is_known form (raised name) = is_one_of form.flags name
 
 abbrev pub said : Form → Option (List Part) → Option Command
 said form None = None
-said form (Some ps) = if list_all (is_known form.options) ps then form.meaning (places ps) (values ps) else None
+said form (Some ps) = if list_all (is_known form) ps then form.meaning (places ps) (values ps) else None
 
 -- ---- values
 
@@ -120,6 +133,10 @@ abbrev pub at_most_once : {X : Type 0} → X → (Text → Option X) → List Te
 at_most_once default value_of [] = Some default
 at_most_once default value_of (text ∷ []) = value_of text
 at_most_once default value_of (text ∷ again ∷ others) = None
+
+-- whether a flag stands, where it stands at most once
+abbrev pub is_raised : List Text → Option Bool
+is_raised = at_most_once false (λ text. Some (bytes_eq text raised_value))
 
 -- ---- the commands
 
@@ -149,21 +166,48 @@ run_with (board ∷ []) cycles journal write_journal =
     (at_most_once None (λ text. option_map Some (file_in text)) write_journal)
 run_with _ cycles journal write_journal = None
 
+abbrev pub asm_of : Option Text → Option Text → Option Bool → Option Command
+asm_of (Some source) (Some output) (Some is_little) = Some (Asm source output is_little)
+asm_of _ _ _ = None
+
+-- `asm SOURCE OUTPUT [--little]`
+abbrev pub asm_with : List Text → List Text → Option Command
+asm_with (source ∷ output ∷ []) little = asm_of (file_in source) (file_in output) (is_raised little)
+asm_with _ little = None
+
+-- `dis IMAGE`
+abbrev pub dis_with : List Text → Option Command
+dis_with (image ∷ []) = option_map (λ image. Dis image) (file_in image)
+dis_with _ = None
+
 unfoldable pub raw_form : Form
-raw_form = record { options = []; meaning = λ words values. raw_with words }
+raw_form = record { options = []; flags = []; meaning = λ words values. raw_with words }
 
 unfoldable pub run_form : Form
 run_form = record {
   options = codes "cycles" ∷ codes "journal" ∷ codes "write-journal" ∷ [];
+  flags = [];
   meaning = λ words values. run_with words (values (codes "cycles")) (values (codes "journal")) (values (codes "write-journal"));
 }
+
+unfoldable pub asm_form : Form
+asm_form = record { options = []; flags = codes "little" ∷ []; meaning = λ words values. asm_with words (values (codes "little")) }
+
+unfoldable pub dis_form : Form
+dis_form = record { options = []; flags = []; meaning = λ words values. dis_with words }
+
+-- what these words after the command mean to it
+abbrev pub meant : Form → List Text → Option Command
+meant form words = said form (parts form.flags None words)
 
 -- what the words mean; None where they are no command
 unfoldable pub command_of : List Text → Option Command
 command_of [] = None
 command_of (word ∷ words) =
-    if bytes_eq word (codes "raw") then said raw_form (parts None words)
-    else if bytes_eq word (codes "run") then said run_form (parts None words)
+    if bytes_eq word (codes "raw") then meant raw_form words
+    else if bytes_eq word (codes "run") then meant run_form words
+    else if bytes_eq word (codes "asm") then meant asm_form words
+    else if bytes_eq word (codes "dis") then meant dis_form words
     else None
 
 -- the answer to words of this meaning

@@ -16,6 +16,16 @@ pub enum Command {
         journal: u32,
         write_journal: Option<FileName>,
     },
+    /// `asm SOURCE OUTPUT [--little]`: assembles a source and writes an ELF file, big-endian where nothing else is said.
+    Asm {
+        source: FileName,
+        output: FileName,
+        is_little: bool,
+    },
+    /// `dis IMAGE`: prints the instruction words of an image.
+    Dis {
+        image: FileName,
+    },
 }
 
 /// Why words give no command.

@@ -1,10 +1,12 @@
-ghost use Rattle.std.specs.Prelude.{◌≡◌, ◌++◌, None, Some, drop, map, option_map, option_to_list};
+ghost use Rattle.std.specs.Prelude.{◌≡◌, ◌∷◌, ◌++◌, [], None, Some, drop, if◌then◌else◌, map, option_map, option_to_list};
 ghost use Rattle.command_words.specs.Words;
-ghost use Rattle.command_words.specs.Words.{Answers, at_most_once, command_of, most_cycles, most_entries, parts, raw_form, raw_with, run_form, run_with, said};
+ghost use Rattle.command_words.specs.Words.{Answers, asm_form, asm_with, at_most_once, command_of, dis_form, dis_with, meant, most_cycles, most_entries, raised_value, raw_form, raw_with, run_form, run_with};
 
 use crate::command::{Command, WordsFault};
 use crate::number::number_in;
-use crate::split::{RawWords, RunWords, split_raw, split_run};
+use crate::split::{
+    AsmWords, DisWords, RawWords, RunWords, split_asm, split_dis, split_raw, split_run,
+};
 use host_io::FileName;
 use std::alloc::Global;
 
@@ -25,13 +27,15 @@ pub fn read_words(alloc: Global, words: &[&str]) -> Result<Command, WordsFault>
     match words {
         [command, ..] if *command == "raw" => read_raw(alloc, words),
         [command, ..] if *command == "run" => read_run(alloc, words),
+        [command, ..] if *command == "asm" => read_asm(alloc, words),
+        [command, ..] if *command == "dis" => read_dis(alloc, words),
         _ => Err(WordsFault::Usage),
     }
 }
 
 /// Reads the words of `raw`, the first of which is the command.
 fn read_raw<'a>(alloc: Global, words: &'a [&'a str]) -> Result<Command, WordsFault>
-    ensures { Answers (said raw_form (parts None (drop 1 (map (λ word. word.now) words.now)))) result }
+    ensures { Answers (meant raw_form (drop 1 (map (λ word. word.now) words.now))) result }
 {
     let split = split_raw(alloc, words)?;
     raw(split).ok_or(WordsFault::Usage)
@@ -39,10 +43,26 @@ fn read_raw<'a>(alloc: Global, words: &'a [&'a str]) -> Result<Command, WordsFau
 
 /// Reads the words of `run`, the first of which is the command.
 fn read_run<'a>(alloc: Global, words: &'a [&'a str]) -> Result<Command, WordsFault>
-    ensures { Answers (said run_form (parts None (drop 1 (map (λ word. word.now) words.now)))) result }
+    ensures { Answers (meant run_form (drop 1 (map (λ word. word.now) words.now))) result }
 {
     let split = split_run(alloc, words)?;
     run(split).ok_or(WordsFault::Usage)
+}
+
+/// Reads the words of `asm`, the first of which is the command.
+fn read_asm<'a>(alloc: Global, words: &'a [&'a str]) -> Result<Command, WordsFault>
+    ensures { Answers (meant asm_form (drop 1 (map (λ word. word.now) words.now))) result }
+{
+    let split = split_asm(alloc, words)?;
+    asm(split).ok_or(WordsFault::Usage)
+}
+
+/// Reads the words of `dis`, the first of which is the command.
+fn read_dis<'a>(alloc: Global, words: &'a [&'a str]) -> Result<Command, WordsFault>
+    ensures { Answers (meant dis_form (drop 1 (map (λ word. word.now) words.now))) result }
+{
+    let split = split_dis(alloc, words)?;
+    dis(split).ok_or(WordsFault::Usage)
 }
 
 fn raw(split: RawWords) -> Option<Command>
@@ -66,6 +86,25 @@ fn run(split: RunWords) -> Option<Command>
         journal,
         write_journal,
     })
+}
+
+fn asm(split: AsmWords) -> Option<Command>
+    ensures { result ≡ asm_with (option_to_list (option_map (λ w. w.now) split.entry.source) ++ option_to_list (option_map (λ w. w.now) split.entry.output)) (if split.entry.is_little then raised_value ∷ [] else []) }
+{
+    let source = file_in(split.source?)?;
+    let output = file_in(split.output?)?;
+    Some(Command::Asm {
+        source,
+        output,
+        is_little: split.is_little,
+    })
+}
+
+fn dis(split: DisWords) -> Option<Command>
+    ensures { result ≡ dis_with (option_to_list (option_map (λ w. w.now) split.entry.image)) }
+{
+    let image = file_in(split.image?)?;
+    Some(Command::Dis { image })
 }
 
 /// The name of a file.

@@ -1,11 +1,14 @@
 // The words of a command, split by `clap`: the texts in their places, and those that the options are given.
-ghost use Rattle.std.specs.Prelude.{◌≡◌, ◌≢◌, [], map, IfOk, IsErrOf};
+ghost use Rattle.std.specs.Prelude.{◌≡◌, ◌≢◌, [], false, map, option_map, IfOk, IsErrOf};
+ghost use Rattle.std.specs.Option.{option_map_or};
+ghost use Rattle.std.specs.Str.{bytes_eq};
 ghost use Rattle.clap.specs.Words.{app_of};
-ghost use Rattle.command_words.specs.Splits.{IsRawSplit, IsRunSplit, faults, raw_app, run_app};
+ghost use Rattle.command_words.specs.Splits.{IsAsmSplit, IsDisSplit, IsRawSplit, IsRunSplit, asm_app, dis_app, faults, raw_app, run_app};
+ghost use Rattle.command_words.specs.Words.{raised_value};
 
 use crate::command::WordsFault;
 use clap::error::ErrorKind;
-use clap::{Arg, ArgMatches, Command, Error};
+use clap::{Arg, ArgAction, ArgMatches, Command, Error};
 use std::alloc::{AllocError, Global};
 
 /// The texts of `raw FILE CYCLES`.
@@ -22,6 +25,20 @@ pub struct RunWords<'a> {
     pub cycles: Option<&'a str>,
     pub journal: Option<&'a str>,
     pub write_journal: Option<&'a str>,
+}
+
+/// The texts of `asm SOURCE OUTPUT [--little]`.
+#[derive(Clone, Copy, Debug, PartialEq, Eq)]
+pub struct AsmWords<'a> {
+    pub source: Option<&'a str>,
+    pub output: Option<&'a str>,
+    pub is_little: bool,
+}
+
+/// The text of `dis IMAGE`.
+#[derive(Clone, Copy, Debug, PartialEq, Eq)]
+pub struct DisWords<'a> {
+    pub image: Option<&'a str>,
 }
 
 fn raw_command<'a>(alloc: Global) -> Result<Command<'a>, AllocError>
@@ -48,6 +65,30 @@ fn run_command<'a>(alloc: Global) -> Result<Command<'a>, AllocError>
         .arg(cycles)?
         .arg(journal)?
         .arg(write_journal)
+}
+
+fn asm_command<'a>(alloc: Global) -> Result<Command<'a>, AllocError>
+    ensures { IfOk result (λ c. app_of c ≡ asm_app) }
+{
+    let source = Arg::new(alloc, "SOURCE");
+    let output = Arg::new(alloc, "OUTPUT");
+    let little = Arg::new(alloc, "little")
+        .long("little")
+        .action(ArgAction::SetTrue);
+    Command::new(alloc, "asm")
+        .disable_help_flag(true)
+        .arg(source)?
+        .arg(output)?
+        .arg(little)
+}
+
+fn dis_command<'a>(alloc: Global) -> Result<Command<'a>, AllocError>
+    ensures { IfOk result (λ c. app_of c ≡ dis_app) }
+{
+    let image = Arg::new(alloc, "IMAGE");
+    Command::new(alloc, "dis")
+        .disable_help_flag(true)
+        .arg(image)
 }
 
 /// Splits the words of `raw`, the first of which is the command.
@@ -87,6 +128,62 @@ pub fn split_run<'a>(alloc: Global, words: &'a [&'a str]) -> Result<RunWords<'a>
             cycles: matches.get_str("cycles"),
             journal: matches.get_str("journal"),
             write_journal: matches.get_str("write-journal"),
+        }),
+        Err(error) => {
+            if error.kind() == ErrorKind::OutOfMemory {
+                Err(WordsFault::NoMemory)
+            } else {
+                Err(WordsFault::Usage)
+            }
+        }
+    }
+}
+
+/// Splits the words of `asm`, the first of which is the command.
+pub fn split_asm<'a>(alloc: Global, words: &'a [&'a str]) -> Result<AsmWords<'a>, WordsFault>
+    ensures ok { IfOk result (IsAsmSplit (map (λ w. w.now) words.entry.now)) }
+    ensures usage { IsErrOf result WordsFault.Usage → faults asm_app (map (λ w. w.now) words.entry.now) ≢ [] }
+{
+    let Ok(command) = asm_command(alloc) else {
+        return Err(WordsFault::NoMemory);
+    };
+    match command.try_get_matches_from(words) {
+        Ok(matches) => Ok(AsmWords {
+            source: matches.get_str("SOURCE"),
+            output: matches.get_str("OUTPUT"),
+            is_little: is_raised(matches.get_str("little")),
+        }),
+        Err(error) => {
+            if error.kind() == ErrorKind::OutOfMemory {
+                Err(WordsFault::NoMemory)
+            } else {
+                Err(WordsFault::Usage)
+            }
+        }
+    }
+}
+
+/// Whether a flag with this text stands: `clap` gives each flag the text `true` or `false`.
+fn is_raised(text: Option<&str>) -> bool
+    ensures { result ≡ option_map_or (λ text. bytes_eq text raised_value) (option_map (λ w. w.now) text.entry) false }
+{
+    match text {
+        Some(text) => text == "true",
+        None => false,
+    }
+}
+
+/// Splits the words of `dis`, the first of which is the command.
+pub fn split_dis<'a>(alloc: Global, words: &'a [&'a str]) -> Result<DisWords<'a>, WordsFault>
+    ensures ok { IfOk result (IsDisSplit (map (λ w. w.now) words.entry.now)) }
+    ensures usage { IsErrOf result WordsFault.Usage → faults dis_app (map (λ w. w.now) words.entry.now) ≢ [] }
+{
+    let Ok(command) = dis_command(alloc) else {
+        return Err(WordsFault::NoMemory);
+    };
+    match command.try_get_matches_from(words) {
+        Ok(matches) => Ok(DisWords {
+            image: matches.get_str("IMAGE"),
         }),
         Err(error) => {
             if error.kind() == ErrorKind::OutOfMemory {

@@ -6,6 +6,8 @@ use std::test::Fail;
 enum Said<'a> {
     Raw(&'a str, u64),
     Run(&'a str, u64, u32, Option<&'a str>),
+    Asm(&'a str, &'a str, bool),
+    Dis(&'a str),
     Fault(WordsFault),
 }
 
@@ -28,13 +30,21 @@ fn answered(answer: &Result<Command, WordsFault>) -> Said<'_> {
                 write_journal: None,
             },
         ) => Said::Run(board.as_text(), *cycles, *journal, None),
+        Ok(
+            Command::Asm {
+                source,
+                output,
+                is_little,
+            },
+        ) => Said::Asm(source.as_text(), output.as_text(), *is_little),
+        Ok(Command::Dis { image }) => Said::Dis(image.as_text()),
         Err(fault) => Said::Fault(*fault),
     }
 }
 
 #[test]
 fn words_mean_commands(rt: HostRuntime) -> Result<(), Fail> {
-    let rows: [(&[&str], Said); 10] = [
+    let rows: [(&[&str], Said); 16] = [
         (&["raw", "image", "007"], Said::Raw("image", 7)),
         (
             &["raw", "--", "a/b", "1000000000000"],
@@ -66,6 +76,15 @@ fn words_mean_commands(rt: HostRuntime) -> Result<(), Fail> {
             &["run", "run", "--cycles=0"],
             Said::Run("run", 0, 1_048_576, None),
         ),
+        (&["asm", "a.s", "a.elf"], Said::Asm("a.s", "a.elf", false)),
+        (&["asm", "--little", "a", "b"], Said::Asm("a", "b", true)),
+        (&["asm", "a", "--little", "b"], Said::Asm("a", "b", true)),
+        (
+            &["asm", "a", "b", "--little", "--"],
+            Said::Asm("a", "b", true),
+        ),
+        (&["dis", "a.elf"], Said::Dis("a.elf")),
+        (&["dis", "--", "dis"], Said::Dis("dis")),
     ];
     for (words, wanted) in rows {
         let answer = read_words(rt.alloc(), words);
@@ -76,9 +95,22 @@ fn words_mean_commands(rt: HostRuntime) -> Result<(), Fail> {
 
 #[test]
 fn other_words_are_refused(rt: HostRuntime) -> Result<(), Fail> {
-    let rows: [&[&str]; 22] = [
+    let rows: [&[&str]; 35] = [
         &[],
-        &["asm", "a", "b"],
+        &["asm"],
+        &["asm", "a"],
+        &["asm", "a", "b", "c"],
+        &["asm", "a", "b", "--little=true"],
+        &["asm", "a", "b", "--little="],
+        &["asm", "--little", "a", "b", "--little"],
+        &["asm", "a", "--", "--little"],
+        &["asm", "a", "b", "--", "--little"],
+        &["asm", "a", "b", "--big"],
+        &["asm", "a", "b", "-little"],
+        &["dis"],
+        &["dis", "a", "b"],
+        &["dis", "a", "--little"],
+        &["dis", "--help"],
         &["--help"],
         &["--", "run", "b"],
         &["raw", "x"],

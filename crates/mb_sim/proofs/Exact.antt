@@ -1,5 +1,5 @@
 -- What follows for the status of `raw` where the shelf tells its files and no fault was counted.
-use Rattle.std.proofs.Common.{◌≡◌, ℕ, ◌<◌, ◌≤◌, List, length, Option, Some, None, inl, inr, refl, sym, ap, subst, ◌∙◌, arith}
+use Rattle.std.proofs.Common.{◌≡◌, ℕ, ◌<◌, ◌≤◌, List, length, Option, Some, None, Err, inl, inr, refl, sym, ap, subst, ◌∙◌, arith}
 use Rattle.std.specs.Prelude.{IfSome}
 use Rattle.host_io.specs.Outside.{Files, IsLonger, ShelfState, SinkState}
 use Rattle.board_machine.specs.declared.events.RunEnd.{RunEnd}
@@ -7,9 +7,10 @@ use Rattle.board_machine.specs.declared.events.RunEnd.TheVariants as end
 use Rattle.board_machine.specs.declared.events.Rest.TheVariants as rest
 use Rattle.board_machine.specs.World.{World}
 use Rattle.command_words.specs.declared.command.Command.{Command}
-use Rattle.command_words.specs.declared.command.Command.TheVariants.{Raw, Run}
+use Rattle.command_words.specs.declared.command.Command.TheVariants.{Asm, Dis, Raw, Run}
 use Rattle.mb_sim.specs.declared.status.Status.{Status}
-use Rattle.mb_sim.specs.declared.status.Status.TheVariants.{Ended, Stopped, CyclesSpent, JournalFull, Usage, ReadFault, BadBoard, BadImage, WriteFault, NoMemory, BadInput, TooLong, Waiting}
+use Rattle.mb_sim.specs.declared.status.Status.TheVariants.{Ended, Stopped, CyclesSpent, JournalFull, Usage, ReadFault, BadBoard, BadImage, WriteFault, NoMemory, BadInput, BadSource, TooLong, Waiting}
+use Rattle.source_tools.specs.declared.refusal.Refusal.TheVariants as refusal
 use Rattle.mb_sim.specs.Board.{no_memory}
 use Rattle.mb_sim.specs.Top.{Answers, HasRun, HasRunTo, IsAnswer, IsFair, RawJob, Says}
 
@@ -18,6 +19,8 @@ pub nothing_done : (o : Option Command) (shelf : ShelfState) (out : SinkState) �
 nothing_done None shelf out = (refl, refl)
 nothing_done (Some (Raw file cycles)) shelf out = record { says = inl refl; files = refl }
 nothing_done (Some (Run board cycles entries journal)) shelf out = no_memory refl refl
+nothing_done (Some (Asm source output is_little)) shelf out = record { answer = Err refusal.NoMemory; told = refl; says = inl refl; quiet = refl }
+nothing_done (Some (Dis image)) shelf out = record { answer = Err refusal.NoMemory; told = refl; says = inl (refl, refl) }
 
 -- what is said of told files is said of these
 told_of : (files : Option Files) (these : Files) (P : Files → Type 0) → files ≡ Some these → IfSome files P → P these
@@ -49,6 +52,7 @@ runs job image shelf shelf' out out' (ReadFault file) fair within says = absurd 
 runs job image shelf shelf' out out' (BadBoard code place) fair within says = absurd says.0
 runs job image shelf shelf' out out' (BadImage core code at) fair within says = absurd says.0
 runs job image shelf shelf' out out' (BadInput file offset) fair within says = absurd says.0
+runs job image shelf shelf' out out' (BadSource code line column) fair within says = absurd says.0
 runs job image shelf shelf' out out' (TooLong file) fair within says = absurd (too_long_not job image file shelf shelf' out out' fair within says.0.0 says.0.1)
 
 pub completes : (o : Option Command) (file image : List ℕ) (cycles : ℕ) (shelf shelf' : ShelfState) (out out' : SinkState) (s : Status) → Answers o shelf shelf' out out' s
@@ -82,6 +86,7 @@ long_status job image shelf shelf' out out' (ReadFault file) fair past says = ab
 long_status job image shelf shelf' out out' (BadBoard code place) fair past says = absurd says.0
 long_status job image shelf shelf' out out' (BadImage core code at) fair past says = absurd says.0
 long_status job image shelf shelf' out out' (BadInput file offset) fair past says = absurd says.0
+long_status job image shelf shelf' out out' (BadSource code line column) fair past says = absurd says.0
 long_status job image shelf shelf' out out' (TooLong file) fair past says = inl (ap TooLong says.0.0)
 
 pub long_answer : (o : Option Command) (file image : List ℕ) (cycles : ℕ) (shelf shelf' : ShelfState) (out out' : SinkState) (s : Status) → Answers o shelf shelf' out out' s

@@ -5,3 +5,4 @@ mod Boards
 mod Exact
 mod FairRuns
 mod RawSays
+pub mod ToolSays

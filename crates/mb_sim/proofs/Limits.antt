@@ -1,17 +1,19 @@
--- The limit of cycles of a command is small.
+-- The limit of cycles of a command is small; one that runs nothing has none.
 use Rattle.std.proofs.Common.{◌≡◌, ℕ, ◌≤◌, List, [], ◌∷◌, Option, Some, None, Bool, true, false, cond, refl, ap, sym, ◌∙◌, subst, arith}
-use Rattle.std.specs.Prelude.{nat_le, ◌&&◌, codes}
+use Rattle.std.specs.Prelude.{nat_le, ◌&&◌, codes, option_map}
 use Rattle.std.specs.List.{list_all}
 use Rattle.std.specs.Str.{bytes_eq}
 use Rattle.std.proofs.lemmas.Bool.Decides.{nat_tests}
 use Rattle.std.proofs.lemmas.Option.{same_Some}
 use Rattle.command_words.specs.declared.command.Command.{Command}
-use Rattle.command_words.specs.declared.command.Command.TheVariants.{Raw, Run}
-use Rattle.command_words.specs.Words.{Form, Part, Text, at_most_once, command_of, decimal_value, file_in, is_known, is_number, most_cycles, number_in, parts, places, raw_form, raw_of, raw_with, run_form, run_of, run_with, said, values}
+use Rattle.command_words.specs.declared.command.Command.TheVariants.{Asm, Dis, Raw, Run}
+use Rattle.command_words.specs.Words.{Form, Part, Text, asm_form, asm_of, asm_with, at_most_once, command_of, decimal_value, dis_form, dis_with, file_in, is_known, is_number, is_raised, most_cycles, number_in, parts, places, raw_form, raw_of, raw_with, run_form, run_of, run_with, said, values}
 
 abbrev pub cycles_of : Command → ℕ
 cycles_of (Raw file cycles) = cycles
 cycles_of (Run board cycles journal write_journal) = cycles
+cycles_of (Asm source output is_little) = 0
+cycles_of (Dis image) = 0
 
 pub record IsSmall (c : Command) : Type 0 where
   pub cycles : cycles_of c ≤ 1_000_000_000_000
@@ -62,16 +64,42 @@ all_small form h false words values c e = cc
 
 said_small : (form : Form) → ((words : List Text) (values : Text → List Text) (c : Command) → form.meaning words values ≡ Some c → IsSmall c) → (o : Option (List Part)) (c : Command) → said form o ≡ Some c → IsSmall c
 said_small form h None c e = cc
-said_small form h (Some ps) c e = all_small form h (list_all (is_known form.options) ps) (places ps) (values ps) c e
+said_small form h (Some ps) c e = all_small form h (list_all (is_known form) ps) (places ps) (values ps) c e
 
-by_word : (raw run : Bool) (a b : Option Command) (c : Command) → (a ≡ Some c → IsSmall c) → (b ≡ Some c → IsSmall c) → cond raw a (cond run b None) ≡ Some c → IsSmall c
-by_word true run a b c f g e = f e
-by_word false true a b c f g e = g e
-by_word false false a b c f g e = cc
+asm_by : (source output : Option Text) (little : Option Bool) (c : Command) → asm_of source output little ≡ Some c → IsSmall c
+asm_by (Some source) (Some output) (Some little) c e = subst IsSmall (same_Some _ _ e) (record { cycles = omega arith })
+asm_by (Some source) (Some output) None c e = cc
+asm_by (Some source) None little c e = cc
+asm_by None output little c e = cc
+
+asm_small : (words little : List Text) (c : Command) → asm_with words little ≡ Some c → IsSmall c
+asm_small (source ∷ output ∷ []) little c e = asm_by (file_in source) (file_in output) (is_raised little) c e
+asm_small (source ∷ output ∷ more ∷ others) little c e = cc
+asm_small (source ∷ []) little c e = cc
+asm_small [] little c e = cc
+
+dis_by : (image : Option Text) (c : Command) → option_map (λ image. Dis image) image ≡ Some c → IsSmall c
+dis_by (Some image) c e = subst IsSmall (same_Some _ _ e) (record { cycles = omega arith })
+dis_by None c e = cc
+
+dis_small : (words : List Text) (c : Command) → dis_with words ≡ Some c → IsSmall c
+dis_small (image ∷ []) c e = dis_by (file_in image) c e
+dis_small (image ∷ more ∷ others) c e = cc
+dis_small [] c e = cc
+
+by_word : (raw run asm dis : Bool) (a b d f : Option Command) (c : Command) → (a ≡ Some c → IsSmall c) → (b ≡ Some c → IsSmall c) → (d ≡ Some c → IsSmall c) → (f ≡ Some c → IsSmall c)
+    → cond raw a (cond run b (cond asm d (cond dis f None))) ≡ Some c → IsSmall c
+by_word true run asm dis a b d f c p q r s e = p e
+by_word false true asm dis a b d f c p q r s e = q e
+by_word false false true dis a b d f c p q r s e = r e
+by_word false false false true a b d f c p q r s e = s e
+by_word false false false false a b d f c p q r s e = cc
 
 pub command_small : (words : List Text) (c : Command) → command_of words ≡ Some c → IsSmall c
-unfolding command_of raw_form run_form
+unfolding command_of raw_form run_form asm_form dis_form
 command_small [] c e = cc
-command_small (word ∷ words) c e = by_word (bytes_eq word (codes "raw")) (bytes_eq word (codes "run")) _ _ c
-    (said_small raw_form (λ ws vs c e. raw_small ws c e) (parts None words) c)
-    (said_small run_form (λ ws vs c e. run_small ws (vs (codes "cycles")) (vs (codes "journal")) (vs (codes "write-journal")) c e) (parts None words) c) e
+command_small (word ∷ words) c e = by_word (bytes_eq word (codes "raw")) (bytes_eq word (codes "run")) (bytes_eq word (codes "asm")) (bytes_eq word (codes "dis")) _ _ _ _ c
+    (said_small raw_form (λ ws vs c e. raw_small ws c e) (parts [] None words) c)
+    (said_small run_form (λ ws vs c e. run_small ws (vs (codes "cycles")) (vs (codes "journal")) (vs (codes "write-journal")) c e) (parts [] None words) c)
+    (said_small asm_form (λ ws vs c e. asm_small ws (vs (codes "little")) c e) (parts (codes "little" ∷ []) None words) c)
+    (said_small dis_form (λ ws vs c e. dis_small ws c e) (parts [] None words) c) e

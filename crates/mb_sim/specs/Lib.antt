@@ -4,3 +4,5 @@ pub mod Raw
 pub mod Board
 pub mod Top
 pub mod Program
+pub mod ToolStatus
+pub mod Tools

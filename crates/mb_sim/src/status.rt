@@ -29,6 +29,8 @@ pub enum Status {
     WriteFault { file: FileName },
     /// There was no memory.
     NoMemory,
+    /// A source has a fault, the first of which is at this line and column, counted from 1: its code, 1101 to 1112.
+    BadSource { code: u16, line: u32, column: u32 },
     /// An input file isn't whole items with control 0 or 1: the offset of the first such item.
     BadInput { file: FileName, offset: u32 },
     /// The file is longer than its limit.
@@ -52,6 +54,7 @@ impl Status {
             Status::WriteFault { .. } => 8,
             Status::NoMemory => 9,
             Status::JournalFull => 10,
+            Status::BadSource { .. } => 11,
             Status::BadInput { .. } => 13,
             Status::TooLong { .. } => 15,
         }

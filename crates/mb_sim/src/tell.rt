@@ -34,6 +34,7 @@ fn message_line(status: &Status) -> LongText
         Status::BadBoard { code, place } => board_line(*code, place),
         Status::BadImage { core, code, at } => image_line(core, *code, *at),
         Status::NoMemory => line_with(b"no memory", b"", b""),
+        Status::BadSource { code, line, column } => source_line(*code, *line, *column),
         Status::BadInput { file, offset } => input_line(file, *offset),
         Status::TooLong { file } => line_with(b"", file.as_bytes(), b" is too long"),
     }
@@ -79,6 +80,21 @@ fn image_line(core: &Name, code: u16, at: u32) -> LongText
     line.push(Buffer::new().format(code as u64).as_bytes());
     line.push(b" at ");
     line.push(Buffer::new().format(at as u64).as_bytes());
+    line.push(b"\n");
+    line
+}
+
+/// The line of a fault of a source.
+fn source_line(code: u16, row: u32, column: u32) -> LongText
+    ensures { result ≡ told (Status.BadSource code row column) }
+{
+    let mut line = LongText::new();
+    line.push(b"mbsim: source ");
+    line.push(Buffer::new().format(code as u64).as_bytes());
+    line.push(b" at ");
+    line.push(Buffer::new().format(row as u64).as_bytes());
+    line.push(b":");
+    line.push(Buffer::new().format(column as u64).as_bytes());
     line.push(b"\n");
     line
 }

@@ -1,14 +1,16 @@
 //! The top call: all that the program does.
-ghost use Rattle.std.specs.Prelude.{◌≡◌, ◌<◌, ◌≤◌, None, Option, Some, List, ℕ, map, length};
+ghost use Rattle.std.specs.Prelude.{◌≡◌, ◌<◌, ◌≤◌, Bool, None, Option, Some, List, ℕ, map, length};
 ghost use Rattle.command_words.specs.Words.{command_of};
-ghost use Rattle.command_words.specs.declared.command.Command.TheVariants.{Raw as RawWords, Run as RunOf};
+ghost use Rattle.command_words.specs.declared.command.Command.TheVariants.{Asm as AsmOf, Dis as DisOf, Raw as RawWords, Run as RunOf};
 ghost use Rattle.mb_sim.specs.Lines.{told};
+ghost use Rattle.mb_sim.specs.ToolStatus.{AsmIsExact, DisIsExact};
 ghost use Rattle.mb_sim.specs.Top.{Answers, CountsLoads, CountsWrites, HasRun, IsAnswer, IsFair, IsFairRun, IsTold};
 
 use crate::raw::raw;
 use crate::run::{RunWords, run};
 use crate::status::Status;
 use crate::tell::tell;
+use crate::tools::{assemble, disassemble};
 use command_words::{Command, WordsFault, read_words};
 use host_io::{Shelf, Sink, Source};
 use probe_set::ProbeSet;
@@ -47,6 +49,13 @@ pub fn mbsim<S: Shelf, C: Source, O: Sink, E: Sink>(
         → command_of (map (λ word. word.now) words.now) ≡ Some (RunOf file cycles entries journal)
         → IsFairRun file journal (S.state shelf.old) (S.state shelf.new) (O.state out.old) (O.state out.new)
         → HasRun result }
+    // where no fault was counted, a source and an image within their limits are done, or refused for their first fault
+    ensures complete_asm { (source output : List ℕ) (is_little : Bool)
+        → command_of (map (λ word. word.now) words.now) ≡ Some (AsmOf source output is_little)
+        → AsmIsExact source is_little (S.state shelf.old) (S.state shelf.new) result }
+    ensures complete_dis { (image : List ℕ)
+        → command_of (map (λ word. word.now) words.now) ≡ Some (DisOf image)
+        → DisIsExact image (S.state shelf.old) (S.state shelf.new) (O.state out.old) (O.state out.new) result }
 {
     let status = obey(alloc, words, shelf, out, probes);
     tell(alloc, err, &status);
@@ -89,6 +98,14 @@ fn obey<S: Shelf, O: Sink>(
             out,
             probes,
         ),
+        Ok(
+            Command::Asm {
+                source,
+                output,
+                is_little,
+            },
+        ) => assemble(alloc, &source, &output, is_little, shelf),
+        Ok(Command::Dis { image }) => disassemble(alloc, &image, shelf, out),
         Err(WordsFault::Usage) => Status::Usage,
         Err(WordsFault::NoMemory) => Status::NoMemory,
     }

@@ -2,6 +2,7 @@ use Rattle.std.proofs.Common.{map}
 use Rattle.command_words.specs.Words.{command_of}
 use Rattle.mb_sim.proofs.Exact.{completes, long_answer}
 use Rattle.mb_sim.proofs.FairRuns.{runs_whole}
+use Rattle.mb_sim.proofs.ToolSays.{assembles, lists}
 use Rattle.mb_sim.proofs.top.mbsim.Goals as goal
 
 pub returns-clause-complete : goal.returns-clause-complete
@@ -12,3 +13,9 @@ returns-clause-too_long g c file image cycles is fair past = long_answer _ file 
 
 pub returns-clause-complete_run : goal.returns-clause-complete_run
 returns-clause-complete_run g c file cycles entries journal is fair = runs_whole _ file cycles entries journal _ _ _ _ _ c.obey-status.ensures.says is fair
+
+pub returns-clause-complete_asm : goal.returns-clause-complete_asm
+returns-clause-complete_asm g c source output is_little is = assembles _ source output is_little _ _ _ _ _ c.obey-status.ensures.says is
+
+pub returns-clause-complete_dis : goal.returns-clause-complete_dis
+returns-clause-complete_dis g c image is = lists _ image _ _ _ _ _ c.obey-status.ensures.says is

@@ -25,5 +25,15 @@ returns-in-Ok-Run-clause-says g c =
     let P : Option Command → Type 0 = λ o. Answers o (g.S.Shelf.state c.args.shelf.now) (g.S.Shelf.state c.run.new.shelf) (g.O.Sink.state c.args.out.now) (g.O.Sink.state c.run.new.out) c.run.result in
     subst P (sym (c.in-Ok-Run.ensures ∙ ap Some c.in-Ok-Run.field-0-is)) c.run.ensures.says
 
+pub returns-in-Ok-Asm-clause-says : goal.returns-in-Ok-Asm-clause-says
+returns-in-Ok-Asm-clause-says g c =
+    let P : Option Command → Type 0 = λ o. Answers o (g.S.Shelf.state c.args.shelf.now) (g.S.Shelf.state c.assemble.new.shelf) (g.O.Sink.state c.args.out.now) (g.O.Sink.state c.args.out.now) c.assemble.result in
+    subst P (sym (c.in-Ok-Asm.ensures ∙ ap Some c.in-Ok-Asm.field-0-is)) (c.assemble.ensures.says (g.O.Sink.state c.args.out.now))
+
+pub returns-in-Ok-Dis-clause-says : goal.returns-in-Ok-Dis-clause-says
+returns-in-Ok-Dis-clause-says g c =
+    let P : Option Command → Type 0 = λ o. Answers o (g.S.Shelf.state c.args.shelf.now) (g.S.Shelf.state c.disassemble.new.shelf) (g.O.Sink.state c.args.out.now) (g.O.Sink.state c.disassemble.new.out) c.disassemble.result in
+    subst P (sym (c.in-Ok-Dis.ensures ∙ ap Some c.in-Ok-Dis.field-0-is)) c.disassemble.ensures.says
+
 pub returns-in-Err-NoMemory-clause-says : goal.returns-in-Err-NoMemory-clause-says
 returns-in-Err-NoMemory-clause-says g c = nothing_done _ (g.S.Shelf.state c.args.shelf.now) (g.O.Sink.state c.args.out.now)
