@@ -19,6 +19,8 @@ mod status;
 mod tell;
 #[cfg(test)]
 mod tests;
+#[cfg(test)]
+mod tool_tests;
 mod tools;
 mod top;
 

@@ -46,11 +46,7 @@ pub fn disassemble<S: Shelf, O: Sink>(
 fn order_of(is_little: bool) -> Order
     ensures { result ≡ order_of is_little }
 {
-    if is_little {
-        Order::Little
-    } else {
-        Order::Big
-    }
+    if is_little { Order::Little } else { Order::Big }
 }
 
 /// The status of an answer.
