@@ -44,7 +44,7 @@ fn check(
     Ok(())
 }
 
-/// Expected: row *asm-prefix*, in both byte orders: the file's last eight bytes, and what `dis` prints of it.
+/// The last eight bytes of the file in both byte orders, and what `dis` prints of it.
 #[test]
 fn prefixes_are_written_and_listed(rt: HostRuntime) -> Result<(), Fail> {
     let alloc = rt.alloc();
