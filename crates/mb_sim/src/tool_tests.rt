@@ -69,7 +69,7 @@ fn prefixes_are_written_and_listed(rt: HostRuntime) -> Result<(), Fail> {
     Ok(())
 }
 
-/// Expected: the number of each cause and its line, by the table of the top call and formats 7.
+/// Each cause has its number and its line.
 #[test]
 #[rattlefmt::skip]
 fn causes_are_told(rt: HostRuntime) -> Result<(), Fail> {

@@ -63,7 +63,7 @@ fn listed(alloc: Global, shelf: &mut MemShelf, file: &str) -> Result<MemSink, Fa
     }
 }
 
-/// Expected: row *asm-prefix*.
+/// A prefix is written and listed.
 #[test]
 fn prefixes_are_written_and_listed(rt: HostRuntime) -> Result<(), Fail> {
     let alloc = rt.alloc();
@@ -82,7 +82,7 @@ fn prefixes_are_written_and_listed(rt: HostRuntime) -> Result<(), Fail> {
     Ok(())
 }
 
-/// Expected: rows *asm-prefix* and *asm-faults*: the code, the line and the column. The output is as before.
+/// A fault has its code, its line and its column, and the output is as before.
 #[test]
 fn faults_of_sources_are_told(rt: HostRuntime) -> Result<(), Fail> {
     let alloc = rt.alloc();
