@@ -17,6 +17,7 @@ pub mod PaceRuns
 pub mod Orders
 pub mod PaceCycles
 pub mod Joins
+pub mod LinkOrder
 pub mod LinkTests
 pub mod TakeTests
 pub mod ProgressTests

@@ -24,8 +24,8 @@ pub record Linked (rows : List LinkRow) (links : List Channel) (journal : List E
   pub taken : (l : ℕ) → taken_from rows l journal ≤ length (put_into rows l journal)
   pub fits : (l : ℕ) → length (holds rows l journal) ≤ depth_of (slice_get rows l)
 
--- one link later an entry
-abbrev moved_by : Option Item → Bool → Channel → Channel
+-- one link after an entry
+abbrev pub moved_by : Option Item → Bool → Channel → Channel
 moved_by None false c = c
 moved_by None true c = without_oldest c
 moved_by (Some x) false c = with_newest x c
@@ -96,7 +96,7 @@ demands rows journal l core (Sent port item) h = put_demands rows journal l item
 demands rows journal l core (HostSent link item) h = put_demands rows journal l item (Some link) (link == l) refl h
 demands rows journal l core _ h = record { puts = λ x e. cc; takes = λ e. cc; one = λ x e. cc }
 
-put_more : (rows : List LinkRow) (l : ℕ) (journal : List Entry) (e : Entry) → put_into rows l (journal ++ e ∷ []) ≡ put_into rows l journal ++ one_or_none (put_by rows l e.core e.what)
+pub put_more : (rows : List LinkRow) (l : ℕ) (journal : List Entry) (e : Entry) → put_into rows l (journal ++ e ∷ []) ≡ put_into rows l journal ++ one_or_none (put_by rows l e.core e.what)
 put_more rows l journal e = filter_map_more (λ (e : Entry). put_by rows l e.core e.what) journal e (put_by rows l e.core e.what) refl
 
 length_one : (t : Bool) (e : Entry) → length (cond t (e ∷ []) []) ≡ as_one t
@@ -109,10 +109,10 @@ taken_more rows l journal e =
     ap length (filter_more p journal e (p e) refl) ∙ length-append (filter p journal) (cond (p e) (e ∷ []) []) ∙ ap (λ n. length (filter p journal) + n) (length_one (p e) e)
 
 -- one link's items later an entry, and how many they are
-record After (rows : List LinkRow) (journal : List Entry) (e : Entry) (l : ℕ) (put : Option Item) (took : Bool) : Type 0 where
-  items : (c : Channel) → c.items ≡ holds rows l journal → (moved_by put took c).items ≡ holds rows l (journal ++ e ∷ [])
-  taken : taken_from rows l (journal ++ e ∷ []) ≤ length (put_into rows l (journal ++ e ∷ []))
-  fits : length (holds rows l (journal ++ e ∷ [])) ≤ depth_of (slice_get rows l)
+pub record After (rows : List LinkRow) (journal : List Entry) (e : Entry) (l : ℕ) (put : Option Item) (took : Bool) : Type 0 where
+  pub items : (c : Channel) → c.items ≡ holds rows l journal → (moved_by put took c).items ≡ holds rows l (journal ++ e ∷ [])
+  pub taken : taken_from rows l (journal ++ e ∷ []) ≤ length (put_into rows l (journal ++ e ∷ []))
+  pub fits : length (holds rows l (journal ++ e ∷ [])) ≤ depth_of (slice_get rows l)
 
 same_depth : (put : Option Item) (took : Bool) (c : Channel) → (moved_by put took c).depth ≡ c.depth
 same_depth None false c = refl
@@ -160,11 +160,14 @@ after_by rows journal e l (Some x) false p t n f d =
     plus_zero n = omega arith
 after_by rows journal e l (Some x) true p t n f d = let i : true ≡ false = d.one x refl in cc
 
+pub entry_after : (rows : List LinkRow) (links : List Channel) (journal : List Entry) (e : Entry) (l : ℕ) → MayStand rows journal e.core e.what → Linked rows links journal → After rows journal e l (put_by rows l e.core e.what) (takes_from rows l e.core e.what)
+entry_after rows links journal e l s k = after_by rows journal e l (put_by rows l e.core e.what) (takes_from rows l e.core e.what) refl refl (k.taken l) (k.fits l) (demands rows journal l e.core e.what s)
+
 -- an entry that stands keeps the links what the journal says
 pub entry_linked : (rows : List LinkRow) (links : List Channel) (journal : List Entry) (e : Entry) → MayStand rows journal e.core e.what → Linked rows links journal → Linked rows (links_after rows e.core e.what links) (journal ++ e ∷ [])
 entry_linked rows links journal e s k =
     let moves = λ (l : ℕ). links_move rows e.core e.what links l in
-    let later : (l : ℕ) → After rows journal e l (put_by rows l e.core e.what) (takes_from rows l e.core e.what) = λ l. after_by rows journal e l (put_by rows l e.core e.what) (takes_from rows l e.core e.what) refl refl (k.taken l) (k.fits l) (demands rows journal l e.core e.what s) in
+    let later = λ (l : ℕ). entry_after rows links journal e l s k in
     record {
       items = λ l c q.
           let was = map_some (moved_by (put_by rows l e.core e.what) (takes_from rows l e.core e.what)) (slice_get links l) c (sym (moves l) ∙ q) in

@@ -5,6 +5,10 @@ use Rattle.std.specs.Option.{option_map}
 use Rattle.std.proofs.lemmas.List.{append-nil}
 use Rattle.std.proofs.lemmas.List.Elements.{filter-append, filter_map-append}
 
+pub cons_append : {X : Type 0} (xs ys : List X) (x : X) → (xs ++ x ∷ []) ++ ys ≡ xs ++ x ∷ ys
+cons_append [] ys x = refl
+cons_append (z ∷ xs) ys x = ap (λ zs. z ∷ zs) (cons_append xs ys x)
+
 pub map_some : {X Y : Type 0} (f : X → Y) (o : Option X) (y : Y) → option_map f o ≡ Some y → (x : X) × (o ≡ Some x) × (f x ≡ y)
 map_some f None y e = cc
 map_some f (Some x) y e = (x, refl, cc)

@@ -26,12 +26,11 @@ use Rattle.journal_laws.specs.Progress.{ProgressBound, by_tick, rests_below, tic
 use Rattle.journal_laws.proofs.BreaksCome.{all_given, any_kept}
 use Rattle.journal_laws.proofs.Gone.{AreFewer, gone_ends, gone_fewer}
 use Rattle.journal_laws.proofs.LinkRuns.{IsValidIn, start_valid_in, step_valid}
-use Rattle.journal_laws.proofs.Lists.{no_split_at}
+use Rattle.journal_laws.proofs.Lists.{cons_append, no_split_at}
 use Rattle.journal_laws.proofs.Moves.{Joins, KeepsParts, devices_keep, host_keeps}
 use Rattle.journal_laws.proofs.Orders.{ticks_once, turns_are}
 use Rattle.journal_laws.proofs.Pace.{all_imply, all_more, is_past, law_more, past_entry, past_next}
 use Rattle.journal_laws.proofs.PaceRuns.{Good, hopes_out, tick_good}
-use Rattle.journal_laws.proofs.PaceTicks.{cons_append}
 use Rattle.journal_laws.proofs.Paces.{Pace, no_tick, other_pace}
 use Rattle.journal_laws.proofs.Takes.{flag_at, flag_of}
 use Rattle.journal_laws.proofs.Truths.{or_cases, or_left, or_right}

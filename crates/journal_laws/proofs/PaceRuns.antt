@@ -29,10 +29,11 @@ use Rattle.journal_laws.specs.Progress.{ProgressBound, as_one, by_tick, has, is_
 use Rattle.journal_laws.proofs.Asking.{wait_shows}
 use Rattle.journal_laws.proofs.Gone.{gone_acts, gone_waits}
 use Rattle.journal_laws.proofs.LinkRuns.{IsValidIn, none_stands, step_valid}
+use Rattle.journal_laws.proofs.Lists.{cons_append}
 use Rattle.journal_laws.proofs.Outcomes.{Gone, SaysRest, act_says, ends_gone, sleeps_asleep, stops_stopped, waits_at}
 use Rattle.journal_laws.proofs.Pace.{all_imply, has_other, is_past, past_more}
 use Rattle.journal_laws.proofs.Paces.{Pace, kept_more, no_wait}
-use Rattle.journal_laws.proofs.PaceTicks.{Acted, AllTick, AtTick, Rested, act_pace, asleep_rests, cons_append, entry_bound, fill_pace, idle_pace, kept_rests, law_list, made, others_pace, past_list, shut_is, stopped_rests, wait_pace}
+use Rattle.journal_laws.proofs.PaceTicks.{Acted, AllTick, AtTick, Rested, act_pace, asleep_rests, entry_bound, fill_pace, idle_pace, kept_rests, law_list, made, others_pace, past_list, shut_is, stopped_rests, wait_pace}
 use Rattle.journal_laws.proofs.Takes.{pending_other}
 
 -- the entries of an act are by a tick, and no waits

@@ -1,9 +1,9 @@
 -- What a core's own tick leaves of its pace.
-use Rattle.std.proofs.Common.{◌≡◌, ℕ, ◌+◌, ◌*◌, ◌<◌, ◌≤◌, ◌&&◌, ◌||◌, not, List, [], ◌∷◌, ◌++◌, length, map, Option, Some, None, refl, ap, sym, ◌∙◌, subst, inl, inr, ◌⊎◌, arith, slice_get, Bool, true, false, cond, add-one, option_to_list}
+use Rattle.std.proofs.Common.{◌≡◌, ℕ, ◌+◌, ◌*◌, ◌<◌, ◌≤◌, ◌&&◌, ◌||◌, List, [], ◌∷◌, ◌++◌, length, map, Option, Some, None, refl, ap, sym, ◌∙◌, subst, inl, inr, ◌⊎◌, arith, slice_get, Bool, true, false, cond, add-one, option_to_list}
 use Rattle.std.specs.List.{AllByRecursion}
 use Rattle.std.specs.Option.{is_some}
 use Rattle.std.proofs.lemmas.List.{append-nil, append_assoc, map-append}
-use Rattle.std.proofs.lemmas.Bool.{eq-eqb, le-ltb}
+use Rattle.std.proofs.lemmas.Bool.{eq-eqb}
 use Rattle.std.proofs.lemmas.Option.{same_Some}
 use Rattle.core_regs.specs.declared.causes.StopCause.{StopCause}
 use Rattle.core_regs.specs.declared.causes.WaitOn.{WaitOn}
@@ -18,15 +18,11 @@ use Rattle.board_machine.specs.World.{CoreAt}
 use Rattle.machine_laws.specs.Holding.{want_of}
 use Rattle.journal_laws.specs.LinkLaw.{IsShut}
 use Rattle.journal_laws.specs.Progress.{ProgressBound, as_one, asleep_by, asleep_recorded, before_tick, by_tick, comes_before, has, is_own, is_rest, is_shut, kept_by, rests_below, rests_in, stopped_by, stopped_recorded, through_tick, ticks_below, wait_recorded, waits_still}
-use Rattle.journal_laws.proofs.Lists.{filter_more, filter_skips}
+use Rattle.journal_laws.proofs.Lists.{cons_append, filter_more, filter_skips}
 use Rattle.journal_laws.proofs.Outcomes.{Gone, access_of}
 use Rattle.journal_laws.proofs.Pace.{all_imply, all_more, filter_all, has_end, has_mid, is_past, law_more, own_is, own_not_before, past_before, past_entry, rests_late, tick_entry_late, recorded_more}
 use Rattle.journal_laws.proofs.Paces.{Pace, WaitsAt, kept_more, other_core, other_pace}
 use Rattle.journal_laws.proofs.Truths.{and_yes, or_left, or_right}
-
-pub cons_append : {X : Type 0} (xs ys : List X) (x : X) → (xs ++ x ∷ []) ++ ys ≡ xs ++ x ∷ ys
-cons_append [] ys x = refl
-cons_append (z ∷ xs) ys x = ap (λ zs. z ∷ zs) (cons_append xs ys x)
 
 -- where a core stands before its tick
 pub record AtTick (order : ℕ → List ℕ) (i c : ℕ) (done rest : List ℕ) (journal : List Entry) : Type 0 where

@@ -5,6 +5,7 @@
 #![tactic(auto)]
 
 ghost use Rattle.journal_laws.specs.Laws.{LinkLawHolds, ProgressBoundHolds, RunsJoin, TakeLawHolds};
+ghost use Rattle.journal_laws.specs.LinkOrder.{LinksKeepOrder};
 ghost use Rattle.journal_laws.specs.LinkTests.{LinkLawIsTested};
 ghost use Rattle.journal_laws.specs.ProgressTests.{ProgressBoundIsTested};
 ghost use Rattle.journal_laws.specs.TakeTests.{TakeLawIsTested};
@@ -13,6 +14,12 @@ ghost use Rattle.journal_laws.specs.TakeTests.{TakeLawIsTested};
 #[tactic(auto, using(crate::proofs::LinkRuns::link_law_holds))]
 pub fn link_law_holds()
     ensures { LinkLawHolds }
+{}
+
+/// In a journal that has the link law, what went into a link is what came out of it, in order, and then what it holds.
+#[tactic(auto, using(crate::proofs::LinkOrder::links_keep_order))]
+pub fn links_keep_order()
+    ensures { LinksKeepOrder }
 {}
 
 /// In the journal of every run, also under events in any order, each core has the take law.
