@@ -13,6 +13,7 @@ pub mod Gone
 pub mod Pace
 pub mod Paces
 pub mod PaceTicks
+pub mod ActEntries
 pub mod PaceRuns
 pub mod Orders
 pub mod PaceCycles

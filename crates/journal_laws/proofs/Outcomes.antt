@@ -19,6 +19,7 @@ use Rattle.delay_imm.specs.Slots.{advanced}
 use Rattle.trap_entry.specs.declared.cause.Cause.{Cause}
 use Rattle.trap_entry.specs.declared.cause.Cause.TheVariants.{DataBus, Illegal as IllegalWord, InstrBus, Stream}
 use Rattle.mb_decode.specs.declared.instruction.Instr.{Instr}
+use Rattle.isa_step.specs.declared.acts.Act.{Act}
 use Rattle.isa_step.specs.declared.acts.Act.TheVariants as acts
 use Rattle.isa_step.specs.declared.acts.Action.{Action}
 use Rattle.isa_step.specs.declared.acts.Action.TheVariants.{Missed, ReadRefused, WriteRefused}
@@ -47,11 +48,17 @@ record IsAlike (a b : Arch) : Type 0 where
   asleep : b.asleep ≡ a.asleep
   stopped : b.stopped ≡ a.stopped
 
+-- an act that says of itself that the core sleeps or stops
+abbrev says_rest : Act → Bool
+says_rest acts.Slept = true
+says_rest (acts.Stopped cause) = true
+says_rest _ = false
+
 -- a deed leaves sleep and stop as they were, or it goes to sleep, or stops
 data Leaves (a : Arch) (d : Deed) : Type 0 where
-  stays : IsAlike a d.arch → Leaves a d
-  sleeps : d.done.act ≡ acts.Slept → d.arch.stopped ≡ a.stopped → Leaves a d
-  halts : (cause : StopCause) → d.done.act ≡ acts.Stopped cause → d.arch.asleep ≡ a.asleep → Leaves a d
+  stays : IsAlike a d.arch → says_rest d.done.act ≡ false → Leaves a d
+  sleeps : d.done.act ≡ acts.Slept → d.arch.asleep ≡ true → d.arch.stopped ≡ a.stopped → Leaves a d
+  halts : (cause : StopCause) → d.done.act ≡ acts.Stopped cause → d.arch.stopped ≡ Some cause → d.arch.asleep ≡ a.asleep → Leaves a d
 
 abbrev WantLeaves : Arch → Want → Type 0
 WantLeaves a (Goes d) = Leaves a d
@@ -91,47 +98,47 @@ checked_alike : (a x : Arch) (flags : ℕ) (item : Item) → IsAlike a x → IsA
 checked_alike a x flags item h = alike_of a x (with_flag x msr_fsl true) (is_expected flags item) h (flag_alike a x msr_fsl true h)
 
 raised_leaves : (a x : Arch) (c : Cause) (o : Option Action) → IsAlike a x → Leaves a (raises x c o)
-raised_leaves a x c o h = stays (record { asleep = h.asleep; stopped = h.stopped })
+raised_leaves a x c o h = stays (record { asleep = h.asleep; stopped = h.stopped }) refl
 
 -- the table
 
 fault_leaves : (a : Arch) (c : Cause) (s : StopCause) (o : Option Action) → Leaves a (faults a c s o)
-fault_leaves a c s o = one_of a (exceptions_on a) (raises a c o) (stops a s o) (raised_leaves a a c o (same a)) (halts s refl refl)
+fault_leaves a c s o = one_of a (exceptions_on a) (raises a c o) (stops a s o) (raised_leaves a a c o (same a)) (halts s refl refl refl)
 
 divided_leaves : (g : Given) (a : Arch) (value : ℕ) (f : Option DivFault) → Leaves a (divided g a value f)
-divided_leaves g a value None = stays (record { asleep = refl; stopped = refl })
+divided_leaves g a value None = stays (record { asleep = refl; stopped = refl }) refl
 divided_leaves g a value (Some f) =
     one_of a (exceptions_on a) (raises (with_flag a msr_dzo true) (cause_of f) None) (retires g (with_flag (advanced a false) msr_dzo true) None (write_of g.rd value))
-    (raised_leaves a (with_flag a msr_dzo true) (cause_of f) None (flag_alike a a msr_dzo true (same a))) (stays (record { asleep = refl; stopped = refl }))
+    (raised_leaves a (with_flag a msr_dzo true) (cause_of f) None (flag_alike a a msr_dzo true (same a))) (stays (record { asleep = refl; stopped = refl }) refl)
 
 branch_leaves : (g : Given) (a : Arch) (delayed taken : Bool) → Leaves a (branches_if g a delayed taken)
-branch_leaves g a delayed true = stays (record { asleep = refl; stopped = refl })
-branch_leaves g a true false = stays (record { asleep = refl; stopped = refl })
-branch_leaves g a false false = stays (record { asleep = refl; stopped = refl })
+branch_leaves g a delayed true = stays (record { asleep = refl; stopped = refl }) refl
+branch_leaves g a true false = stays (record { asleep = refl; stopped = refl }) refl
+branch_leaves g a false false = stays (record { asleep = refl; stopped = refl }) refl
 
 barrier_leaves : (g : Given) (a : Arch) → Leaves a (barrier g a)
-barrier_leaves g a = one_of a (is_sleep g.imm) _ _ (sleeps refl refl) (stays (record { asleep = refl; stopped = refl }))
+barrier_leaves g a = one_of a (is_sleep g.imm) _ _ (sleeps refl refl refl) (stays (record { asleep = refl; stopped = refl }) refl)
 
 deed_leaves : (kind : Kind) (g : Given) (a : Arch) → Leaves a (deed_of kind g a)
 unfolding deed_of
-deed_leaves (Add with_carry true) g a = stays (record { asleep = refl; stopped = refl })
-deed_leaves (Add with_carry false) g a = stays (record { asleep = refl; stopped = refl })
-deed_leaves (Rsub with_carry true) g a = stays (record { asleep = refl; stopped = refl })
-deed_leaves (Rsub with_carry false) g a = stays (record { asleep = refl; stopped = refl })
+deed_leaves (Add with_carry true) g a = stays (record { asleep = refl; stopped = refl }) refl
+deed_leaves (Add with_carry false) g a = stays (record { asleep = refl; stopped = refl }) refl
+deed_leaves (Rsub with_carry true) g a = stays (record { asleep = refl; stopped = refl }) refl
+deed_leaves (Rsub with_carry false) g a = stays (record { asleep = refl; stopped = refl }) refl
 deed_leaves (Divide signed) g a = divided_leaves g a (quotient_of g.b g.a signed) (fault_of g.b g.a signed)
 deed_leaves (BranchIf condition delayed) g a = branch_leaves g a delayed (holds condition g.a)
 deed_leaves Barrier g a = barrier_leaves g a
-deed_leaves _ g a = stays (record { asleep = refl; stopped = refl })
+deed_leaves _ g a = stays (record { asleep = refl; stopped = refl }) refl
 
 data_leaves : (a : Arch) (addr : ℕ) (o : Option Action) → Leaves a (no_data a addr o)
 data_leaves a addr o = fault_leaves a (DataBus addr) (stop.DataBus addr) o
 
 word_leaves : (g : Given) (a : Arch) (addr : ℕ) (o : Option ℕ) → Leaves a (read_from_bus g a addr o)
-word_leaves g a addr (Some word) = stays (record { asleep = refl; stopped = refl })
+word_leaves g a addr (Some word) = stays (record { asleep = refl; stopped = refl }) refl
 word_leaves g a addr None = data_leaves a addr (Some (ReadRefused addr))
 
 write_leaves : (g : Given) (a : Arch) (addr : ℕ) (b : Bool) → Leaves a (written_to_bus g a addr b)
-write_leaves g a addr true = stays (record { asleep = refl; stopped = refl })
+write_leaves g a addr true = stays (record { asleep = refl; stopped = refl }) refl
 write_leaves g a addr false = data_leaves a addr (Some (WriteRefused addr g.d))
 
 load_past : (g : Given) (a : Arch) (addr : ℕ) (size : Size) → WantLeaves a (loads_past g a addr size)
@@ -140,13 +147,13 @@ load_past g a addr Half = data_leaves a addr None
 load_past g a addr Word = word_leaves g a addr
 
 load_from : (g : Given) (a : Arch) (size : Size) (addr : ℕ) (o : Option ℕ) → WantLeaves a (loads_from g a size addr o)
-load_from g a size addr (Some value) = stays (record { asleep = refl; stopped = refl })
+load_from g a size addr (Some value) = stays (record { asleep = refl; stopped = refl }) refl
 load_from g a size addr None = load_past g a addr size
 
 load_leaves : (g : Given) (a : Arch) (m : List ℕ) (size : Size) → WantLeaves a (loads g a m size)
 load_leaves g a m size =
     let addr = lowered size (address g) in
-    either a (not (is_aligned size (address g)) && exceptions_on a) (unaligned g a size false) (loads_at g a m size addr) (stays (record { asleep = refl; stopped = refl }))
+    either a (not (is_aligned size (address g)) && exceptions_on a) (unaligned g a size false) (loads_at g a m size addr) (stays (record { asleep = refl; stopped = refl }) refl)
     (load_from g a size addr (loaded m size a.order addr))
 
 store_past : (g : Given) (a : Arch) (addr : ℕ) (size : Size) → WantLeaves a (stores_past g a addr size)
@@ -157,15 +164,15 @@ store_past g a addr Word = write_leaves g a addr
 store_leaves : (g : Given) (a : Arch) (m : List ℕ) (size : Size) → WantLeaves a (stores g a m size)
 store_leaves g a m size =
     let addr = lowered size (address g) in
-    either a (not (is_aligned size (address g)) && exceptions_on a) (unaligned g a size true) (stores_at g a m size addr) (stays (record { asleep = refl; stopped = refl }))
-    (either a (fits m addr (bytes_of size)) (Goes (keeps g a size addr None)) (stores_past g a addr size) (stays (record { asleep = refl; stopped = refl })) (store_past g a addr size))
+    either a (not (is_aligned size (address g)) && exceptions_on a) (unaligned g a size true) (stores_at g a m size addr) (stays (record { asleep = refl; stopped = refl }) refl)
+    (either a (fits m addr (bytes_of size)) (Goes (keeps g a size addr None)) (stores_past g a addr size) (stays (record { asleep = refl; stopped = refl }) refl) (store_past g a addr size))
 
 missed_leaves : (a : Arch) (b : Bool) (missed d : Deed) → Leaves a missed → (if b then Some missed else None) ≡ Some d → Leaves a d
 missed_leaves a true missed d h e = subst (Leaves a) (same_Some _ _ e) h
 missed_leaves a false missed d h e = cc
 
 miss_stays : (g : Given) (a : Arch) (port : ℕ) (full : Bool) → Leaves a (retires g (with_flag (passed g a) msr_c true) (Some (Missed port full)) None)
-miss_stays g a port full = stays (record { asleep = refl; stopped = refl })
+miss_stays g a port full = stays (record { asleep = refl; stopped = refl }) refl
 
 receive_leaves : (g : Given) (a : Arch) (port : ℕ) (x : Item) → Leaves a (receives g a port x)
 receive_leaves g a port x =
@@ -174,7 +181,7 @@ receive_leaves g a port x =
     (raises (checked g.flags x (marked g.flags false a)) (Stream port x.word) (Some (got_or_seen g.flags port x)))
     (retires g (checked g.flags x (marked g.flags false (passed g a))) (Some (got_or_seen g.flags port x)) (write_of g.rd x.word))
     (raised_leaves a (checked g.flags x (marked g.flags false a)) (Stream port x.word) (Some (got_or_seen g.flags port x)) (checked_alike a (marked g.flags false a) g.flags x (marked_alike a a g.flags false (same a))))
-    (stays (record { asleep = h.asleep; stopped = h.stopped }))
+    (stays (record { asleep = h.asleep; stopped = h.stopped }) refl)
 
 get_leaves : (g : Given) (a : Arch) (port : ℕ) → WantLeaves a (gets_from g a port)
 get_leaves g a port = (receive_leaves g a port, λ d e. missed_leaves a (is_nonblocking g.flags) _ d (miss_stays g a port false) e)
@@ -182,7 +189,7 @@ get_leaves g a port = (receive_leaves g a port, λ d e. missed_leaves a (is_nonb
 put_leaves : (g : Given) (a : Arch) (port : ℕ) → WantLeaves a (puts_to g a port)
 put_leaves g a port =
     let h = marked_alike a (passed g a) g.flags false (passed_alike g a) in
-    (stays (record { asleep = h.asleep; stopped = h.stopped }), λ d e. missed_leaves a (is_nonblocking g.flags) _ d (miss_stays g a port true) e)
+    (stays (record { asleep = h.asleep; stopped = h.stopped }) refl, λ d e. missed_leaves a (is_nonblocking g.flags) _ d (miss_stays g a port true) e)
 
 effect_leaves : (kind : Kind) (g : Given) (a : Arch) (m : List ℕ) → WantLeaves a (effect kind g a m)
 unfolding effect
@@ -196,7 +203,7 @@ kind_leaves : (kind : Kind) (i : Instr) (word : ℕ) (o : Operands) (a : Arch) (
 kind_leaves kind i word o a m =
     let placed = if is_some a.slot && not (belongs_into_slot kind) then Goes (stops a (stop.Slot word) None) else effect kind (given i o a) a m in
     either a (is_banned i kind a.network) (illegal a word) placed (fault_leaves a IllegalWord (stop.Illegal word) None)
-    (either a (is_some a.slot && not (belongs_into_slot kind)) (Goes (stops a (stop.Slot word) None)) (effect kind (given i o a) a m) (halts (stop.Slot word) refl refl) (effect_leaves kind (given i o a) a m))
+    (either a (is_some a.slot && not (belongs_into_slot kind)) (Goes (stops a (stop.Slot word) None)) (effect kind (given i o a) a m) (halts (stop.Slot word) refl refl refl) (effect_leaves kind (given i o a) a m))
 
 instr_leaves : (i : Option Instr) (word : ℕ) (o : Operands) (a : Arch) (m : List ℕ) → WantLeaves a (wants_instr i word o a m)
 instr_leaves None word o a m = fault_leaves a IllegalWord (stop.Illegal word) None
@@ -206,14 +213,16 @@ want_leaves : (here : Option Here) (o : Operands) (a : Arch) (m : List ℕ) → 
 unfolding wants
 want_leaves None o a m = fault_leaves a InstrBus (stop.InstrBus a.pc) None
 want_leaves (Some here) o a m =
-    either a (is_end here.word a) (Homes (comes_home a)) (wants_instr here.instr here.word o a m) (stays (record { asleep = refl; stopped = refl })) (instr_leaves here.instr here.word o a m)
+    either a (is_end here.word a) (Homes (comes_home a)) (wants_instr here.instr here.word o a m) (stays (record { asleep = refl; stopped = refl }) refl) (instr_leaves here.instr here.word o a m)
 
 -- the outcome that is due
 
--- a view sleeps or is stopped after an act only where the act says so
+-- a view sleeps or is stopped after an act exactly where the act says so
 pub record SaysRest (d : Deed) : Type 0 where
   pub asleep : d.arch.asleep ≡ true → d.done.act ≡ acts.Slept
   pub stopped : is_some d.arch.stopped ≡ true → (cause : StopCause) × (d.done.act ≡ acts.Stopped cause)
+  pub sleeps : d.done.act ≡ acts.Slept → d.arch.asleep ≡ true
+  pub halts : (cause : StopCause) → d.done.act ≡ acts.Stopped cause → is_some d.arch.stopped ≡ true
 
 -- the access at which a view waits
 abbrev pub access_of : Want → Option WaitOn
@@ -239,17 +248,23 @@ Determines v s Ends = Gone v s.hopes
 Determines v s (Stops cause) = v.arch.stopped ≡ Some cause
 
 leaves_says : (v : View) (d : Deed) → IsAwake v → Leaves (bare v.arch) d → SaysRest d
-leaves_says v d w (stays h) = record {
+leaves_says v d w (stays h n) = record {
   asleep = λ x. let z : false ≡ true = sym (h.asleep ∙ w.asleep) ∙ x in cc;
   stopped = λ x. let z : false ≡ true = ap is_some (sym (h.stopped ∙ w.stopped)) ∙ x in cc;
+  sleeps = λ x. let z : false ≡ true = sym n ∙ ap says_rest x in cc;
+  halts = λ cause x. let z : false ≡ true = sym n ∙ ap says_rest x in cc;
 }
-leaves_says v d w (sleeps h k) = record {
+leaves_says v d w (sleeps h t k) = record {
   asleep = λ x. h;
   stopped = λ x. let z : false ≡ true = ap is_some (sym (k ∙ w.stopped)) ∙ x in cc;
+  sleeps = λ x. t;
+  halts = λ cause x. let z : acts.Slept ≡ acts.Stopped cause = sym h ∙ x in cc;
 }
-leaves_says v d w (halts cause h k) = record {
+leaves_says v d w (halts cause h t k) = record {
   asleep = λ x. let z : false ≡ true = sym (k ∙ w.asleep) ∙ x in cc;
   stopped = λ x. (cause, h);
+  sleeps = λ x. let z : acts.Stopped cause ≡ acts.Slept = sym h ∙ x in cc;
+  halts = λ other x. ap is_some t;
 }
 
 item_determines : (v : View) (s : Shown) (port : ℕ) (item : Item → Deed) (empty : Option Deed) (o : Option Item) → IsAwake v → want_of v ≡ Gets port item empty → WantLeaves (bare v.arch) (Gets port item empty) → Determines v s (by_item port item empty o)
@@ -282,6 +297,8 @@ take_says : (v : View) (t : Take) → v.arch.stopped ≡ None → SaysRest (take
 take_says v t c = record {
   asleep = λ x. cc;
   stopped = λ x. let z : false ≡ true = ap is_some (sym c) ∙ x in cc;
+  sleeps = λ x. cc;
+  halts = λ cause x. cc;
 }
 
 by_determines : (v : View) (s : Shown) (t : Option Take) (c : Option StopCause) → v.arch.stopped ≡ c → Determines v s (due_by (here_of v) (operands_of (here_of v) v.arch.regs) (bare v.arch) v.memory s t c)

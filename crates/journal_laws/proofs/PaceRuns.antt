@@ -26,6 +26,7 @@ use Rattle.board_machine.proofs.Lists.{all_append}
 use Rattle.board_machine.proofs.Staying.{hoped}
 use Rattle.board_machine.proofs.Tells.{which}
 use Rattle.journal_laws.specs.Progress.{ProgressBound, as_one, by_tick, has, is_rest, is_shut, rests_below, rests_in, ticks_below}
+use Rattle.journal_laws.proofs.ActEntries.{TickOut, act_out, all_tick, deed_acts, deed_whats, none_waits, some_out, still_out}
 use Rattle.journal_laws.proofs.Asking.{wait_shows}
 use Rattle.journal_laws.proofs.Gone.{gone_acts, gone_waits}
 use Rattle.journal_laws.proofs.LinkRuns.{IsValidIn, none_stands, step_valid}
@@ -34,90 +35,6 @@ use Rattle.journal_laws.proofs.Outcomes.{Gone, SaysRest, act_says, ends_gone, sl
 use Rattle.journal_laws.proofs.Pace.{all_imply, has_other, is_past, past_more}
 use Rattle.journal_laws.proofs.Paces.{Pace, kept_more, no_wait}
 use Rattle.journal_laws.proofs.PaceTicks.{Acted, AllTick, AtTick, Rested, act_pace, asleep_rests, entry_bound, fill_pace, idle_pace, kept_rests, law_list, made, others_pace, past_list, shut_is, stopped_rests, wait_pace}
-use Rattle.journal_laws.proofs.Takes.{pending_other}
-
--- the entries of an act are by a tick, and no waits
-
-abbrev IsByAct : What → Type 0
-IsByAct what = (by_tick what ≡ true) × (is_wait what ≡ false)
-
-by_action : (a : Action) → IsByAct (entry_of_action a)
-by_action (action.Took t) = (refl, refl)
-by_action (action.Got p x) = (refl, refl)
-by_action (action.Sent p x) = (refl, refl)
-by_action (action.Seen p x) = (refl, refl)
-by_action (action.Room p) = (refl, refl)
-by_action (action.Missed p b) = (refl, refl)
-by_action (action.Read p w) = (refl, refl)
-by_action (action.ReadRefused p) = (refl, refl)
-by_action (action.Wrote p w) = (refl, refl)
-by_action (action.WriteRefused p w) = (refl, refl)
-
-by_actions : (o : Option Action) → AllByRecursion IsByAct (option_to_list (entries_of_action o))
-by_actions None = tt
-by_actions (Some a) = (by_action a, tt)
-
-by_act : (a : Act) → AllByRecursion IsByAct (option_to_list (entry_of_act a))
-by_act acts.Retired = tt
-by_act acts.Slept = ((refl, refl), tt)
-by_act (acts.Took t) = tt
-by_act (acts.Raised esr) = ((refl, refl), tt)
-by_act (acts.Stopped cause) = ((refl, refl), tt)
-
-all_tick : (es : List What) → AllByRecursion IsByAct es → AllTick es
-all_tick [] h = tt
-all_tick (what ∷ es) h = (h.0.0, all_tick es h.1)
-
--- they leave the wait that is kept
-none_waits : (i c act : ℕ) (journal : List Entry) (es : List What) → AllByRecursion IsByAct es → kept_wait i (journal ++ made c i act es) ≡ kept_wait i journal
-none_waits i c act journal [] h = ap (kept_wait i) (append-nil journal)
-none_waits i c act journal (what ∷ es) h =
-    let e : Entry = entry_of c i act what in
-    ap (kept_wait i) (sym (cons_append journal (made c i act es) e))
-    ∙ none_waits i c act (journal ++ e ∷ []) es h.1
-    ∙ kept_more i journal e
-    ∙ no_wait i e (kept_wait i journal) (e.core == i) refl h.0.1
-
--- what the entries of a tick leave of a fabric
-
-pub record TickOut (i act : ℕ) (before later : Fabric) (es : List What) : Type 0 where
-  pub journal : later.journal ≡ before.journal ++ made before.cycle i act es
-  pub cycle : later.cycle ≡ before.cycle
-  pub rows : later.rows ≡ before.rows
-  pub bus : later.bus ≡ before.bus
-  pub left : later.left ≡ before.left
-  pub pending : (k : ℕ) → (i ≡ k → ⊥) → slice_get later.pending k ≡ slice_get before.pending k
-
-still_out : (i act : ℕ) (f : Fabric) → TickOut i act f f []
-still_out i act f = record { journal = sym (append-nil f.journal); cycle = refl; rows = refl; bus = refl; left = refl; pending = λ k n. refl }
-
-some_out : (i act : ℕ) (o : Option What) (f : Fabric) → TickOut i act f (entered_some i act o f) (option_to_list o)
-some_out i act None f = still_out i act f
-some_out i act (Some what) f = record { journal = refl; cycle = refl; rows = refl; bus = refl; left = refl; pending = λ k n. pending_other i k what f.pending n }
-
-out_then : (i act : ℕ) (f g h : Fabric) (xs ys : List What) → TickOut i act f g xs → TickOut i act g h ys → TickOut i act f h (xs ++ ys)
-out_then i act f g h xs ys a b = record {
-  journal = b.journal ∙ ap (λ j. j ++ made g.cycle i act ys) a.journal ∙ ap (λ c. (f.journal ++ made f.cycle i act xs) ++ made c i act ys) a.cycle
-      ∙ append_assoc f.journal (made f.cycle i act xs) (made f.cycle i act ys) ∙ ap (λ es. f.journal ++ es) (sym (map-append (entry_of f.cycle i act) xs ys));
-  cycle = b.cycle ∙ a.cycle;
-  rows = b.rows ∙ a.rows;
-  bus = b.bus ∙ a.bus;
-  left = b.left ∙ a.left;
-  pending = λ k n. b.pending k n ∙ a.pending k n;
-}
-
-deed_whats : Deed → List What
-deed_whats deed = option_to_list (entries_of_action deed.action) ++ option_to_list (entry_of_act deed.done.act)
-
-act_out : (i act : ℕ) (deed : Deed) (f : Fabric) → TickOut i act f (act_leaves i act deed f) (deed_whats deed)
-unfolding deed_whats
-act_out i act deed f =
-    let g = entered_some i act (entries_of_action deed.action) f in
-    out_then i act f g (act_leaves i act deed f) _ _ (some_out i act (entries_of_action deed.action) f) (some_out i act (entry_of_act deed.done.act) g)
-
-deed_acts : (deed : Deed) → AllByRecursion IsByAct (deed_whats deed)
-unfolding deed_whats
-deed_acts deed = all_append IsByAct _ _ (by_actions deed.action) (by_act deed.done.act)
 
 -- what can come to a core is told by rows, breaks that are left and its pending ones
 hopes_by : (bus bus2 : DeviceRows) (p p2 : Option Breaks) (l l2 : List EventRow) (k : ℕ) → bus2 ≡ bus → p2 ≡ p → l2 ≡ l
