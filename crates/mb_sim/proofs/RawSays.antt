@@ -19,9 +19,9 @@ says_printed job shelf shelf' out out' how last entries status ran same adds is 
     let P : Status → Type 0 = λ s. Says job shelf shelf' out out' s in
     let Q : List Entry → Type 0 = λ es. out'.written ≡ append_known out.written (printed es) in
     subst P (sym is) (by_end how ran (subst Q same adds.0)) where
-  by_end : (how : RunEnd) → HasRunTo job shelf how last → (out'.written ≡ append_known out.written (printed last.fabric.journal)) → Says job shelf shelf' out out' (status_of how)
-  by_end (end.Rest rest.Ended) h written = (last, h, written)
-  by_end (end.Rest rest.Waiting) h written = (last, h, written)
-  by_end (end.Rest rest.Stopped) h written = (last, h, written)
-  by_end end.CyclesSpent h written = (last, h, written)
-  by_end end.JournalFull h written = (last, h, written)
+      by_end : (how : RunEnd) → HasRunTo job shelf how last → (out'.written ≡ append_known out.written (printed last.fabric.journal)) → Says job shelf shelf' out out' (status_of how)
+      by_end (end.Rest rest.Ended) h written = (last, h, written)
+      by_end (end.Rest rest.Waiting) h written = (last, h, written)
+      by_end (end.Rest rest.Stopped) h written = (last, h, written)
+      by_end end.CyclesSpent h written = (last, h, written)
+      by_end end.JournalFull h written = (last, h, written)
