@@ -1,5 +1,5 @@
 -- From the answers of `asm` and `dis` to their statuses.
-use Rattle.std.proofs.Common.{◌≡◌, ◌∙◌, ℕ, List, Bool, Option, Some, Result, Ok, Err, inl, inr, ap, refl, subst, sym, codes}
+use Rattle.std.proofs.Common.{◌≡◌, ℕ, List, Bool, Option, Some, Result, Ok, Err, inl, inr, ap, refl, subst, sym}
 use Rattle.std.specs.Prelude.{⊤}
 use Rattle.command_words.specs.declared.command.Command.{Command}
 use Rattle.command_words.specs.declared.command.Command.TheVariants.{Asm, Dis}
