@@ -1,64 +1,19 @@
 -- From the answers of `asm` and `dis` to their statuses.
-use Rattle.std.proofs.Common.{◌≡◌, ◌∙◌, ℕ, List, Bool, Option, Some, Result, Ok, Err, inl, inr, ap, refl, subst, sym, codes}
+use Rattle.std.proofs.Common.{◌≡◌, ℕ, List, Bool, Option, Some, Result, Ok, Err, inl, inr, ap, refl, subst, sym}
 use Rattle.std.specs.Prelude.{⊤}
 use Rattle.command_words.specs.declared.command.Command.{Command}
 use Rattle.command_words.specs.declared.command.Command.TheVariants.{Asm, Dis}
 use Rattle.host_io.specs.Outside.{ShelfState, SinkState}
 use Rattle.source_tools.proofs.AsmComplete.{asm_complete}
-use Rattle.source_tools.proofs.Counts.{asm_counts, dis_counts}
 use Rattle.source_tools.proofs.DisComplete.{dis_complete}
-use Rattle.source_tools.specs.Complete.{CountsLoads as ToolLoads, CountsWrites as ToolWrites, IsDone, IsRefusedBy}
+use Rattle.source_tools.specs.Complete.{IsDone, IsRefusedBy}
 use Rattle.source_tools.specs.declared.refusal.Refusal.{Refusal}
 use Rattle.source_tools.specs.declared.refusal.Refusal.TheVariants as refusal
 use Rattle.mb_sim.specs.Tools.{SaysAssembled, SaysListed, order_of, status_of_tool}
-use Rattle.mb_sim.specs.Top.{Answers, CountsLoads, CountsWrites, IsAnswer}
+use Rattle.mb_sim.specs.Top.{Answers, IsAnswer}
 use Rattle.mb_sim.specs.ToolStatus.{AsmIsExact, DisIsExact}
 use Rattle.mb_sim.specs.declared.status.Status.{Status}
 use Rattle.mb_sim.specs.declared.status.Status.TheVariants.{Ended}
-
--- ---- counts
-
-loads_by : (old new : ShelfState) (answer : Result ⊤ Refusal) → ToolLoads old new answer → CountsLoads old.faults.load_faults new.faults.load_faults (status_of_tool answer)
-loads_by old new (Ok done) h = h
-loads_by old new (Err (refusal.CannotRead file)) h = tt
-loads_by old new (Err (refusal.TooLong file)) h = h
-loads_by old new (Err (refusal.BadSource code line column)) h = h
-loads_by old new (Err (refusal.BadImage code at)) h = h
-loads_by old new (Err (refusal.CannotWrite file)) h = h
-loads_by old new (Err refusal.NoMemory) h = h
-
-writes_by : (before now : ℕ) (answer : Result ⊤ Refusal) → ToolWrites before now answer → CountsWrites before now (status_of_tool answer)
-writes_by before now (Ok done) h = h
-writes_by before now (Err (refusal.CannotRead file)) h = h
-writes_by before now (Err (refusal.TooLong file)) h = h
-writes_by before now (Err (refusal.BadSource code line column)) h = h
-writes_by before now (Err (refusal.BadImage code at)) h = h
-writes_by before now (Err (refusal.CannotWrite file)) h = tt
-writes_by before now (Err refusal.NoMemory) h = h
-
-pub asm_loads : (source output : List ℕ) (is_little : Bool) (old new : ShelfState) (out out' : SinkState) (s : Status) → SaysAssembled source output is_little old new out out' s
-    → CountsLoads old.faults.load_faults new.faults.load_faults s
-asm_loads source output is_little old new out out' s h =
-    subst (CountsLoads old.faults.load_faults new.faults.load_faults) (sym h.told) (loads_by old new h.answer (asm_counts.loads (order_of is_little) source output old new h.answer h.says))
-
-pub asm_stores : (source output : List ℕ) (is_little : Bool) (old new : ShelfState) (out out' : SinkState) (s : Status) → SaysAssembled source output is_little old new out out' s
-    → CountsWrites old.faults.write_faults new.faults.write_faults s
-asm_stores source output is_little old new out out' s h =
-    subst (CountsWrites old.faults.write_faults new.faults.write_faults) (sym h.told)
-    (writes_by old.faults.write_faults new.faults.write_faults h.answer (asm_counts.stores (order_of is_little) source output old new h.answer h.says))
-
-pub dis_loads : (image : List ℕ) (old new : ShelfState) (out out' : SinkState) (s : Status) → SaysListed image old new out out' s → CountsLoads old.faults.load_faults new.faults.load_faults s
-dis_loads image old new out out' s h =
-    subst (CountsLoads old.faults.load_faults new.faults.load_faults) (sym h.told) (loads_by old new h.answer (dis_counts.loads image old new out out' h.answer h.says))
-
-pub dis_writes : (image : List ℕ) (old new : ShelfState) (out out' : SinkState) (s : Status) → SaysListed image old new out out' s → CountsWrites out.faults out'.faults s
-dis_writes image old new out out' s h =
-    subst (CountsWrites out.faults out'.faults) (sym h.told) (writes_by out.faults out'.faults h.answer (dis_counts.writes image old new out out' h.answer h.says))
-
-pub dis_stores : (image : List ℕ) (old new : ShelfState) (out out' : SinkState) (s : Status) → SaysListed image old new out out' s → new.faults.write_faults ≡ old.faults.write_faults
-dis_stores image old new out out' s h = dis_counts.stores image old new out out' h.answer h.says
-
--- ---- where no fault was counted
 
 done_by : (answer : Result ⊤ Refusal) → IsDone answer → IsAnswer Ended (status_of_tool answer)
 done_by (Ok done) h = inl refl

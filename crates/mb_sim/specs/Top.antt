@@ -1,5 +1,5 @@
 -- What a status says of the call that answered it.
-use Rattle.std.specs.Prelude.{◌≡◌, ◌⊎◌, ⊤, codes, IfSome, ℕ, ◌≤◌, List, [], ◌∷◌, ◌++◌, length, Option, Some, None, Result}
+use Rattle.std.specs.Prelude.{◌≡◌, ◌⊎◌, ⊤, codes, IfSome, ℕ, ◌≤◌, List, [], ◌∷◌, length, Option, Some, None, Result}
 use Rattle.std.specs.Io.KnownBytes.{append_known}
 use Rattle.host_io.specs.declared.faults.StoreFault.{StoreFault}
 use Rattle.host_io.specs.Outside.{Adds, AddsPrefix, Files, IsLonger, Rose, ShelfState, SinkState}

@@ -1,9 +1,6 @@
-use Rattle.std.proofs.Common.{◌∙◌, Bool, List, ℕ, refl, subst}
+use Rattle.std.proofs.Common.{refl, subst}
 use Rattle.core_regs.specs.declared.causes.Order.{Order}
-use Rattle.host_io.specs.Outside.{SinkState}
 use Rattle.source_tools.specs.Answers.{SaysAsm}
-use Rattle.mb_sim.specs.Tools.{SaysAssembled}
-use Rattle.mb_sim.proofs.ToolSays.{asm_loads, asm_stores}
 use Rattle.mb_sim.proofs.tools.assemble.Goals as goal
 
 pub returns-clause-says : goal.returns-clause-says

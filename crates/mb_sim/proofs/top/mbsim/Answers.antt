@@ -1,5 +1,3 @@
-use Rattle.std.proofs.Common.{map}
-use Rattle.command_words.specs.Words.{command_of}
 use Rattle.mb_sim.proofs.Exact.{completes, long_answer}
 use Rattle.mb_sim.proofs.FairRuns.{runs_whole}
 use Rattle.mb_sim.proofs.ToolSays.{assembles, lists}
