@@ -14,6 +14,7 @@ pub mod Pace
 pub mod Paces
 pub mod PaceTicks
 pub mod ActEntries
+pub mod Recorded
 pub mod PaceRuns
 pub mod Orders
 pub mod PaceCycles

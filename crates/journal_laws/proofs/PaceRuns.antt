@@ -34,6 +34,7 @@ use Rattle.journal_laws.proofs.Lists.{cons_append}
 use Rattle.journal_laws.proofs.Outcomes.{Gone, SaysRest, act_says, ends_gone, sleeps_asleep, stops_stopped, waits_at}
 use Rattle.journal_laws.proofs.Pace.{all_imply, has_other, is_past, past_more}
 use Rattle.journal_laws.proofs.Paces.{Pace, kept_more, no_wait}
+use Rattle.journal_laws.proofs.Recorded.{kept_is}
 use Rattle.journal_laws.proofs.PaceTicks.{Acted, AllTick, AtTick, Rested, act_pace, asleep_rests, entry_bound, fill_pace, idle_pace, kept_rests, law_list, made, others_pace, past_list, shut_is, stopped_rests, wait_pace}
 
 -- what can come to a core is told by rows, breaks that are left and its pending ones
@@ -102,10 +103,6 @@ does order rows i done rest was before is later deed t d f =
           (acted i deed was before is later f (act_says was.view (shown before i) deed d)) never kept p);
       bound = inr (λ first p. entry_bound order rows first i before.cycle done rest before.journal was (hopes_at before i) t never p);
     })
-
-kept_is : (o : Option ℕ) (act : ℕ) → is_act o act ≡ true → o ≡ Some act
-kept_is None act h = cc
-kept_is (Some a) act h = ap Some (eqb-true a act h)
 
 waits : (order : ℕ → List ℕ) (rows : List LinkRow) (i : ℕ) (done rest : List ℕ) (was : CoreAt) (before : Fabric) (is : CoreAt) (later : Fabric) (on : WaitOn) (kept : Bool) → AtTick order i before.cycle done rest before.journal → due was.view (shown before i) ≡ Waits on.port on.full
     → is_shut rows before.journal i on.port on.full ≡ true → is_kept i was.acts before.journal ≡ kept → IsIdle was (cond kept before (entered i was.acts (Wait on) before)) is later → OwnTick order rows i done rest was before is later

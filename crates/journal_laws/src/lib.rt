@@ -4,7 +4,7 @@
 //! it by hand. There is no code here: each function is a law of the board machine, whose statement is its clause.
 #![tactic(auto)]
 
-ghost use Rattle.journal_laws.specs.Laws.{LinkLawHolds, ProgressBoundHolds, RunsJoin, TakeLawHolds};
+ghost use Rattle.journal_laws.specs.Laws.{LinkLawHolds, ProgressBoundHolds, RestIsRecorded, RunsJoin, TakeLawHolds};
 ghost use Rattle.journal_laws.specs.LinkOrder.{LinksKeepOrder};
 ghost use Rattle.journal_laws.specs.LinkTests.{LinkLawIsTested};
 ghost use Rattle.journal_laws.specs.ProgressTests.{ProgressBoundIsTested};
@@ -32,6 +32,13 @@ pub fn take_law_holds()
 #[tactic(auto, using(crate::proofs::PaceCycles::progress_bound_holds))]
 pub fn progress_bound_holds()
     ensures { ProgressBoundHolds }
+{}
+
+/// In every reached state the entries of a core record whether it sleeps, is stopped and keeps a wait, as the progress
+/// bound reads them.
+#[tactic(auto, using(crate::proofs::Recorded::rest_is_recorded))]
+pub fn rest_is_recorded()
+    ensures { RestIsRecorded }
 {}
 
 /// Runs by cycles one after the other are one run by cycles, and a run of the other laws.
