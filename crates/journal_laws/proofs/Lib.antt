@@ -15,6 +15,8 @@ pub mod Paces
 pub mod PaceTicks
 pub mod ActEntries
 pub mod Recorded
+pub mod Breaks
+pub mod BreakTicks
 pub mod PaceRuns
 pub mod Orders
 pub mod PaceCycles

@@ -94,7 +94,7 @@ unfolding is_halted
 halted_is (acts.Stopped cause) h = (cause, refl)
 halted_is _ h = cc
 
-alike : (a b : Bool) → (a ≡ true → b ≡ true) → (b ≡ true → a ≡ true) → a ≡ b
+pub alike : (a b : Bool) → (a ≡ true → b ≡ true) → (b ≡ true → a ≡ true) → a ≡ b
 alike true true f g = refl
 alike true false f g = let z : false ≡ true = f refl in cc
 alike false true f g = let z : false ≡ true = g refl in cc

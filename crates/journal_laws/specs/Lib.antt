@@ -1,6 +1,7 @@
 pub mod LinkLaw
 pub mod TakeLaw
 pub mod Progress
+pub mod BreakLaw
 pub mod Laws
 pub mod LinkOrder
 pub mod LinkTests

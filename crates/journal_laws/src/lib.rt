@@ -42,7 +42,7 @@ pub fn rest_is_recorded()
 {}
 
 /// Runs by cycles one after the other are one run by cycles, and a run of the other laws.
-#[tactic(auto, using(crate::proofs::Joins::runs_join))]
+#[tactic(auto, using(crate::proofs::Joins::runs_join, crate::proofs::BreakTicks::own_breaks))]
 pub fn runs_join()
     ensures { RunsJoin }
 {}
