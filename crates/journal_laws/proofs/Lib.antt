@@ -20,6 +20,7 @@ pub mod BreakTicks
 pub mod PaceRuns
 pub mod Orders
 pub mod PaceCycles
+pub mod BreakRuns
 pub mod Joins
 pub mod LinkOrder
 pub mod LinkTests

@@ -324,7 +324,7 @@ step_recorded views w v Devices hold h k i s first q r = others_recorded first i
 step_recorded views w v Host hold h k i s first q r = others_recorded first i s w v Host (λ e. cc) h (k i s first (ap (λ (x : World). slice_get x.cores i) (sym h) ∙ q) r)
 step_recorded views w v Next hold h k i s first q r = others_recorded first i s w v Next (λ e. cc) h (k i s first (ap (λ (x : World). slice_get x.cores i) (sym h) ∙ q) r)
 
-one_more : (b : BoardFile) (views : List View) (inputs : Inputs) (w v : World) (event : Event) → Reached b views inputs w → Step w event v → Reached b views inputs v
+pub one_more : (b : BoardFile) (views : List View) (inputs : Inputs) (w v : World) (event : Event) → Reached b views inputs w → Step w event v → Reached b views inputs v
 one_more b views inputs w v event r h = record { first = r.first; events = r.events ++ event ∷ []; began = r.began; ran = steps_push r.first w v r.events event r.ran h }
 
 steps_recorded : (b : BoardFile) (views : List View) (inputs : Inputs) (w v : World) (es : List Event) → Reached b views inputs w → Steps w es v → AllRecorded views w → AllRecorded views v

@@ -9,6 +9,7 @@ use Rattle.run_journal.specs.declared.entry.Entry.{Entry}
 use Rattle.board_machine.specs.Cycles.{Cycles}
 use Rattle.board_machine.specs.Fabric.{is_kept, shown}
 use Rattle.board_machine.specs.World.{CoreAt, Inputs, Reached, Start, World}
+use Rattle.journal_laws.specs.BreakLaw.{BreakLaw}
 use Rattle.journal_laws.specs.LinkLaw.{LinkLaw}
 use Rattle.journal_laws.specs.TakeLaw.{TakeLaw}
 use Rattle.journal_laws.specs.Progress.{ProgressBound, asleep_recorded, rests_below, stopped_recorded, ticking, ticks_below, wait_recorded}
@@ -54,3 +55,6 @@ pub record IsRecorded (first : View) (core : ℕ) (s : CoreAt) (journal : List E
 pub record RestIsRecorded : Type 0 where
   pub law : (b : BoardFile) (views : List View) (inputs : Inputs) (w : World) → Reached b views inputs w
       → (core : ℕ) (s : CoreAt) (first : View) → slice_get w.cores core ≡ Some s → slice_get views core ≡ Some first → IsRecorded first core s w.fabric.journal
+
+pub record BreakLawHolds : Type 0 where
+  pub law : (b : BoardFile) (views : List View) (inputs : Inputs) (count : ℕ) (w : World) → RanCycles b views inputs count w → BreakLaw b.events views w.fabric.journal

@@ -4,7 +4,7 @@
 //! it by hand. There is no code here: each function is a law of the board machine, whose statement is its clause.
 #![tactic(auto)]
 
-ghost use Rattle.journal_laws.specs.Laws.{LinkLawHolds, ProgressBoundHolds, RestIsRecorded, RunsJoin, TakeLawHolds};
+ghost use Rattle.journal_laws.specs.Laws.{BreakLawHolds, LinkLawHolds, ProgressBoundHolds, RestIsRecorded, RunsJoin, TakeLawHolds};
 ghost use Rattle.journal_laws.specs.LinkOrder.{LinksKeepOrder};
 ghost use Rattle.journal_laws.specs.LinkTests.{LinkLawIsTested};
 ghost use Rattle.journal_laws.specs.ProgressTests.{ProgressBoundIsTested};
@@ -34,6 +34,13 @@ pub fn progress_bound_holds()
     ensures { ProgressBoundHolds }
 {}
 
+/// In the journal of every run by cycles no break is passed over: at each entry of a core, each break that has come and that
+/// the view lets in was taken before, but for a take that goes first.
+#[tactic(auto, using(crate::proofs::BreakRuns::break_law_holds))]
+pub fn break_law_holds()
+    ensures { BreakLawHolds }
+{}
+
 /// In every reached state the entries of a core record whether it sleeps, is stopped and keeps a wait, as the progress
 /// bound reads them.
 #[tactic(auto, using(crate::proofs::Recorded::rest_is_recorded))]
@@ -42,7 +49,7 @@ pub fn rest_is_recorded()
 {}
 
 /// Runs by cycles one after the other are one run by cycles, and a run of the other laws.
-#[tactic(auto, using(crate::proofs::Joins::runs_join, crate::proofs::BreakTicks::own_breaks))]
+#[tactic(auto, using(crate::proofs::Joins::runs_join))]
 pub fn runs_join()
     ensures { RunsJoin }
 {}
