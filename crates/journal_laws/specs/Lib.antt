@@ -7,3 +7,4 @@ pub mod LinkOrder
 pub mod LinkTests
 pub mod TakeTests
 pub mod ProgressTests
+pub mod BreakTests

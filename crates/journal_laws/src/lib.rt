@@ -4,6 +4,7 @@
 //! it by hand. There is no code here: each function is a law of the board machine, whose statement is its clause.
 #![tactic(auto)]
 
+ghost use Rattle.journal_laws.specs.BreakTests.{BreakLawIsTested};
 ghost use Rattle.journal_laws.specs.Laws.{BreakLawHolds, LinkLawHolds, ProgressBoundHolds, RestIsRecorded, RunsJoin, TakeLawHolds};
 ghost use Rattle.journal_laws.specs.LinkOrder.{LinksKeepOrder};
 ghost use Rattle.journal_laws.specs.LinkTests.{LinkLawIsTested};
@@ -70,4 +71,10 @@ pub fn take_law_is_tested()
 #[tactic(auto, using(crate::proofs::ProgressTests::progress_bound_is_tested))]
 pub fn progress_bound_is_tested()
     ensures { ProgressBoundIsTested }
+{}
+
+/// The law of breaks keeps small journals that are right, and refuses small ones that are not.
+#[tactic(auto, using(crate::proofs::BreakTests::break_law_is_tested))]
+pub fn break_law_is_tested()
+    ensures { BreakLawIsTested }
 {}
