@@ -1,5 +1,5 @@
 -- A run by cycles passes no break over.
-use Rattle.std.proofs.Common.{◌≡◌, ℕ, zero, suc, ◌+◌, ◌<◌, ◌≤◌, ◌&&◌, not, nat_lt, List, [], ◌∷◌, ◌++◌, length, filter, map, Option, Some, None, refl, ap, sym, ◌∙◌, subst, inl, inr, ◌⊎◌, arith, slice_get, Bool, true, false}
+use Rattle.std.proofs.Common.{◌≡◌, ℕ, zero, suc, ◌+◌, ◌<◌, ◌&&◌, not, nat_lt, List, [], ◌∷◌, ◌++◌, length, filter, map, Option, Some, None, refl, ap, sym, ◌∙◌, subst, inl, inr, ◌⊎◌, arith, slice_get, Bool, true, false}
 use Rattle.std.specs.List.{AllByRecursion}
 use Rattle.std.proofs.lemmas.List.{append-nil, append_assoc}
 use Rattle.std.proofs.lemmas.Bool.{cases_eq, le-ltb, ltb-true}
@@ -12,7 +12,6 @@ use Rattle.board_file.specs.declared.board.EventRow.{EventRow}
 use Rattle.run_journal.specs.declared.entry.Entry.{Entry}
 use Rattle.run_journal.specs.declared.entry.What.{What}
 use Rattle.run_journal.specs.declared.entry.What.TheVariants.{HostSent, HostGot, Left}
-use Rattle.board_machine.specs.declared.events.Event.{Event}
 use Rattle.board_machine.specs.declared.events.Event.TheVariants.{Devices, Host, Tick, Next}
 use Rattle.board_machine.specs.Cycles.{cycles_of, events_of}
 use Rattle.board_machine.specs.DeviceMoves.{line_change, line_driven}
@@ -25,7 +24,7 @@ use Rattle.board_machine.proofs.Steps.{moves_enter, steps_split}
 use Rattle.board_machine.proofs.Tells.{which}
 use Rattle.machine_laws.proofs.Holding.{each_state_holds}
 use Rattle.journal_laws.specs.BreakLaw.{BreakLaw}
-use Rattle.journal_laws.specs.Laws.{BreakLawHolds, RanCycles}
+use Rattle.journal_laws.specs.Laws.{BreakLawHolds}
 use Rattle.journal_laws.specs.Progress.{by_tick, ticking}
 use Rattle.journal_laws.proofs.Breaks.{Serves, come_serves, is_later, left_later, serves_later}
 use Rattle.journal_laws.proofs.BreaksCome.{keep_by}

@@ -1,27 +1,23 @@
 -- The break law keeps journals that are right, and refuses others.
-use Rattle.std.proofs.Common.{◌≡◌, ℕ, zero, suc, ◌+◌, ◌&&◌, nat_lt, List, [], ◌∷◌, ◌++◌, Some, refl, ap, sym, ◌∙◌, subst, inl, inr, Bool, true, false, slice_get}
+use Rattle.std.proofs.Common.{◌≡◌, ℕ, zero, suc, ◌+◌, ◌&&◌, nat_lt, List, [], ◌∷◌, Some, refl, ap, sym, ◌∙◌, subst, inl, inr, Bool, true, false, slice_get}
 use Rattle.std.specs.List.{AllByRecursion}
 use Rattle.std.proofs.lemmas.Option.{same_Some}
-use Rattle.core_regs.specs.declared.causes.Take.TheVariants.{Interrupt, Break, NonMaskable}
+use Rattle.core_regs.specs.declared.causes.Take.TheVariants.{Interrupt, Break}
 use Rattle.isa_step.specs.Deeds.{View}
-use Rattle.isa_step.specs.History.{state_after}
 use Rattle.board_file.specs.declared.board.EventRow.{EventRow}
 use Rattle.run_journal.specs.declared.entry.Entry.{Entry}
 use Rattle.run_journal.specs.declared.entry.What.{What}
 use Rattle.run_journal.specs.declared.entry.What.TheVariants.{Took, Raised}
 use Rattle.board_machine.specs.Fabric.{is_break}
-use Rattle.board_machine.specs.History.{may_take_at, view_told}
+use Rattle.board_machine.specs.History.{view_told}
 use Rattle.journal_laws.specs.BreakLaw.{BreakLaw, PassesNone, goes_first, lets_in, was_taken}
 use Rattle.journal_laws.specs.BreakTests.{BreakLawIsTested}
 use Rattle.journal_laws.specs.LinkTests.{waits_get}
 use Rattle.journal_laws.specs.Progress.{by_tick}
 use Rattle.journal_laws.specs.TakeLaw.{may_break}
 use Rattle.journal_laws.specs.TakeTests.{at_act, one_break}
+use Rattle.journal_laws.proofs.TakeTests.{first_determined, no_such}
 use Rattle.journal_laws.proofs.Lists.{no_split_at, split_at_more}
-
-first_determined : (first : View) → view_told first [] 0 0 ≡ Some first
-unfolding state_after
-first_determined first = refl
 
 -- the one view, and the one entry
 one_view : (core : ℕ) (first v : View) → slice_get (first ∷ []) core ≡ Some v → first ≡ v
@@ -36,9 +32,6 @@ one_entry breaks first e p = record {
   ];
 }
 
-no_such : false ≡ true → ⊥
-no_such e = cc
-
 -- what is asked of the first entry
 of_first : (breaks : List EventRow) (first : View) (e : Entry) → by_tick e.what ≡ true → e.core ≡ 0 → BreakLaw breaks (first ∷ []) (e ∷ []) → PassesNone breaks first [] e
 of_first breaks first e t c law = law.each [] [] e first refl t (ap (slice_get (first ∷ [])) c)
@@ -46,7 +39,7 @@ of_first breaks first e t c law = law.each [] [] e first refl t (ap (slice_get (
 the_view : (breaks : List EventRow) (first : View) (e : Entry) (p : PassesNone breaks first [] e) → e.core ≡ 0 → e.act ≡ 0 → p.view ≡ first
 the_view breaks first e p c a =
     let z : view_told first [] 0 0 ≡ Some p.view = ap (λ core. view_told first [] core 0) (sym c) ∙ ap (view_told first [] e.core) (sym a) ∙ p.determined in
-    same_Some _ _ (sym z ∙ first_determined first)
+    same_Some _ _ (sym z ∙ first_determined first [])
 
 let_in : (kind : Bool) (breaks : List EventRow) (first : View) (e : Entry) (p : PassesNone breaks first [] e) → e.core ≡ 0 → e.act ≡ 0 → lets_in kind first ≡ true → lets_in kind p.view ≡ true
 let_in kind breaks first e p c a h = ap (lets_in kind) (the_view breaks first e p c a) ∙ h
@@ -62,7 +55,7 @@ abbrev Passed : List EventRow → View → ℕ → What → Bool → Type 0
 Passed breaks first cycle what kind = lets_in kind first ≡ true → goes_first kind what ≡ false → AllByRecursion (λ (r : EventRow). is_break 0 kind r && nat_lt r.cycle (cycle + 1) ≡ true → was_taken [] 0 kind 0 r ≡ true) breaks
 
 passes : (breaks : List EventRow) (first : View) (cycle : ℕ) (what : What) → ((kind : Bool) → Passed breaks first cycle what kind) → BreakLaw breaks (first ∷ []) (at_act cycle 0 what ∷ [])
-passes breaks first cycle what h = one_entry breaks first (at_act cycle 0 what) (record { view = first; determined = first_determined first; none = h })
+passes breaks first cycle what h = one_entry breaks first (at_act cycle 0 what) (record { view = first; determined = first_determined first []; none = h })
 
 taken_in_time : (first : View) (kind : Bool) → Passed (one_break 0 false) first 5 (Took Break) kind
 taken_in_time first true l g = ((λ c. absurd (no_such c)), tt)

@@ -1,33 +1,31 @@
 -- A tick passes no break over, and leaves each that has come pending or taken.
-use Rattle.std.proofs.Common.{◌≡◌, ℕ, zero, suc, ◌+◌, ◌<◌, ◌≤◌, ◌==◌, ◌&&◌, ◌||◌, not, List, [], ◌∷◌, ◌++◌, length, filter, map, Option, Some, None, refl, ap, sym, ◌∙◌, subst, inl, inr, ◌⊎◌, arith, slice_get, Bool, true, false, cond, nat_lt, option_to_list}
-use Rattle.std.specs.List.{AllByRecursion, list_any}
+use Rattle.std.proofs.Common.{◌≡◌, ℕ, ◌+◌, ◌==◌, ◌&&◌, not, List, [], ◌∷◌, ◌++◌, Option, Some, None, refl, ap, sym, ◌∙◌, subst, inl, inr, arith, slice_get, Bool, true, false, cond, nat_lt, option_to_list}
+use Rattle.std.specs.List.{AllByRecursion}
 use Rattle.std.proofs.lemmas.List.{append-nil}
 use Rattle.std.proofs.lemmas.List.Folds.{list_any-append}
-use Rattle.std.proofs.lemmas.Bool.{cases_eq, eq-eqb, lt-ltb}
+use Rattle.std.proofs.lemmas.Bool.{eq-eqb, lt-ltb}
 use Rattle.core_regs.specs.declared.causes.StopCause.{StopCause}
 use Rattle.core_regs.specs.declared.causes.Take.{Take}
-use Rattle.core_regs.specs.declared.causes.Take.TheVariants.{Interrupt, Break, NonMaskable}
 use Rattle.core_regs.specs.declared.causes.WaitOn.{WaitOn}
 use Rattle.core_regs.specs.declared.registers.Arch.{Arch}
-use Rattle.core_regs.specs.State.{bare, interrupts_on}
+use Rattle.core_regs.specs.State.{bare}
 use Rattle.isa_step.specs.declared.acts.Breaks.{Breaks}
 use Rattle.isa_step.specs.Shown.{Shown}
 use Rattle.isa_step.specs.Deeds.{View, Deed, Due, Does, Waits, Sleeps, Ends, Stops}
-use Rattle.isa_step.specs.Due.{awake, due, due_by, due_with, here_of, is_masked, pick, take_by, take_due, takes}
+use Rattle.isa_step.specs.Due.{due, due_by, due_with, here_of, is_masked, pick, take_by, take_due}
 use Rattle.isa_step.specs.Wants.{operands_of}
 use Rattle.board_file.specs.declared.board.EventRow.{EventRow}
 use Rattle.run_journal.specs.declared.entry.Entry.{Entry}
 use Rattle.run_journal.specs.declared.entry.What.{What}
 use Rattle.run_journal.specs.declared.entry.What.TheVariants.{Took, Wait}
-use Rattle.run_journal.specs.Files.{tape}
-use Rattle.board_machine.specs.Fabric.{Fabric, act_leaves, entered, entered_some, entries_of_action, entry_of, entry_of_act, is_break, is_kept, shown, waited}
+use Rattle.board_machine.specs.Fabric.{Fabric, act_leaves, entered, entered_some, entries_of_action, entry_of, entry_of_act, is_break, is_kept, shown}
 use Rattle.board_machine.specs.History.{may_take_at, view_told}
 use Rattle.board_machine.specs.World.{CoreAt, IsAct, TickMay}
 use Rattle.journal_laws.specs.BreakLaw.{BreakLaw, PassesNone, goes_first, lets_in, takes_it, was_taken}
 use Rattle.journal_laws.specs.Progress.{by_tick}
 use Rattle.journal_laws.specs.TakeLaw.{may_break, takes_break}
 use Rattle.journal_laws.proofs.ActEntries.{TickOut, act_out, deed_whats, some_out, still_out}
-use Rattle.journal_laws.proofs.Asking.{IsInstruction, IsTake, act_splits}
+use Rattle.journal_laws.proofs.Asking.{act_splits}
 use Rattle.journal_laws.proofs.Breaks.{IsServed, Serves, all_map, serves_later, taken_later}
 use Rattle.journal_laws.proofs.Lists.{cons_append, split_at_more}
 use Rattle.journal_laws.proofs.PaceTicks.{made}

@@ -1,8 +1,8 @@
 -- Which breaks of a core that have come are pending, and which were taken.
-use Rattle.std.proofs.Common.{◌≡◌, ℕ, ◌+◌, ◌<◌, ◌≤◌, ◌==◌, ◌&&◌, ◌||◌, not, List, [], ◌∷◌, ◌++◌, length, filter, Option, Some, None, refl, ap, sym, ◌∙◌, subst, inl, inr, ◌⊎◌, arith, slice_get, slice_set, Bool, true, false, cond, nat_lt, length-set}
-use Rattle.std.specs.List.{AllByRecursion, fold, list_any}
+use Rattle.std.proofs.Common.{◌≡◌, ℕ, ◌+◌, ◌<◌, ◌≤◌, ◌==◌, ◌&&◌, not, List, [], ◌∷◌, ◌++◌, length, filter, Option, Some, None, refl, ap, sym, ◌∙◌, subst, inl, inr, ◌⊎◌, arith, slice_get, slice_set, Bool, true, false, cond, nat_lt, length-set}
+use Rattle.std.specs.List.{AllByRecursion, fold}
 use Rattle.std.proofs.lemmas.List.Folds.{list_any-append}
-use Rattle.std.proofs.lemmas.Bool.{cases_eq, eq-eqb, eqb-true, lt-ltb, ltb-true, ltb-false, le-ltb}
+use Rattle.std.proofs.lemmas.Bool.{cases_eq, eqb-true, lt-ltb, ltb-true, ltb-false, le-ltb}
 use Rattle.isa_step.specs.declared.acts.Breaks.{Breaks}
 use Rattle.board_file.specs.declared.board.EventRow.{EventRow}
 use Rattle.run_journal.specs.declared.entry.Entry.{Entry}
@@ -14,7 +14,7 @@ use Rattle.journal_laws.specs.TakeLaw.{takes_break}
 use Rattle.journal_laws.proofs.BreaksCome.{any_more, keep_by}
 use Rattle.journal_laws.proofs.Recorded.{alike}
 use Rattle.journal_laws.proofs.Takes.{flag_at, flag_of}
-use Rattle.journal_laws.proofs.Truths.{and_both, and_yes, not_true, or_left, or_right}
+use Rattle.journal_laws.proofs.Truths.{and_both, and_yes, not_true, or_left}
 
 -- a break that has come is pending, or it was taken
 abbrev pub IsServed : ℕ → Bool → ℕ → List Breaks → List Entry → EventRow → Type 0

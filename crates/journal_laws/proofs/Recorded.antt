@@ -1,5 +1,5 @@
 -- Sleep, stop and waits are what the journal records.
-use Rattle.std.proofs.Common.{◌≡◌, ℕ, ◌+◌, ◌≤◌, ◌==◌, ◌&&◌, List, [], ◌∷◌, ◌++◌, map, Option, Some, None, refl, ap, sym, ◌∙◌, subst, inl, inr, ◌⊎◌, arith, slice_get, Bool, true, false, cond, option_to_list}
+use Rattle.std.proofs.Common.{◌≡◌, ℕ, ◌+◌, ◌≤◌, ◌&&◌, List, [], ◌∷◌, ◌++◌, Option, Some, None, refl, ap, sym, ◌∙◌, subst, inl, inr, ◌⊎◌, arith, slice_get, Bool, true, false, cond, option_to_list}
 use Rattle.std.specs.List.{AllByRecursion}
 use Rattle.std.specs.Option.{is_some, option_map}
 use Rattle.std.proofs.lemmas.List.{append-nil, append_assoc, map-append}
@@ -7,14 +7,13 @@ use Rattle.std.proofs.lemmas.Bool.{cases_eq, eq-eqb, eqb-true, ne_eqb}
 use Rattle.std.proofs.lemmas.Option.{same_Some, slice_get-map}
 use Rattle.core_regs.specs.declared.causes.StopCause.{StopCause}
 use Rattle.core_regs.specs.declared.causes.WaitOn.{WaitOn}
-use Rattle.core_regs.specs.State.{bare}
 use Rattle.isa_step.specs.declared.acts.Act.{Act}
 use Rattle.isa_step.specs.declared.acts.Act.TheVariants as acts
 use Rattle.isa_step.specs.declared.acts.Action.{Action}
 use Rattle.isa_step.specs.declared.acts.Action.TheVariants as action
 use Rattle.isa_step.specs.Shown.{Shown}
 use Rattle.isa_step.specs.Deeds.{View, Deed, Due, Does, Waits, Sleeps, Ends, Stops, Want, Goes, Homes, Gets, Puts, Reads, Writes}
-use Rattle.isa_step.specs.Due.{due, takes}
+use Rattle.isa_step.specs.Due.{due}
 use Rattle.isa_step.specs.History.{answered, deed_told, exactly}
 use Rattle.isa_step.proofs.Telling.{is_told}
 use Rattle.board_file.specs.declared.board.BoardFile.{BoardFile}
@@ -23,7 +22,7 @@ use Rattle.run_journal.specs.declared.entry.What.{What}
 use Rattle.run_journal.specs.declared.entry.What.TheVariants.{Took, Slept, Stopped, Wait, LineUp, LineDown, HostSent, HostGot, Left}
 use Rattle.board_machine.specs.declared.events.Event.{Event}
 use Rattle.board_machine.specs.declared.events.Event.TheVariants.{Devices, Host, Tick, Next}
-use Rattle.board_machine.specs.Fabric.{Fabric, entered, entries_of_action, entry_of, entry_of_act, entry_of_action, is_act, is_kept, is_wait, kept_after, kept_wait, shown, waited}
+use Rattle.board_machine.specs.Fabric.{Fabric, entered, entries_of_action, entry_of, entry_of_act, entry_of_action, is_act, is_kept, kept_wait, shown, waited}
 use Rattle.board_machine.specs.World.{CoreAt, Inputs, IsAct, Reached, Start, Step, Steps, TickMay, TickStep, World}
 use Rattle.board_machine.proofs.Steps.{steps_push}
 use Rattle.board_machine.proofs.Tells.{which}
@@ -33,7 +32,7 @@ use Rattle.machine_laws.specs.Stamps.{IsStamped, maker}
 use Rattle.machine_laws.proofs.Holding.{each_state_holds}
 use Rattle.machine_laws.proofs.Stamping.{step_stamped}
 use Rattle.journal_laws.specs.Laws.{IsRecorded, RestIsRecorded}
-use Rattle.journal_laws.specs.Progress.{asleep_by, asleep_recorded, by_tick, kept_by, recorded, stopped_by, stopped_recorded, wait_recorded}
+use Rattle.journal_laws.specs.Progress.{asleep_by, asleep_recorded, by_tick, kept_by, stopped_by, stopped_recorded, wait_recorded}
 use Rattle.journal_laws.proofs.ActEntries.{IsByAct, act_out, deed_acts, deed_whats, none_waits}
 use Rattle.journal_laws.proofs.Asking.{act_splits}
 use Rattle.journal_laws.proofs.Lists.{cons_append}

@@ -1,5 +1,5 @@
 -- That no break is passed over in a run by cycles.
-use Rattle.std.specs.Prelude.{◌≡◌, ℕ, ◌+◌, ◌==◌, ◌&&◌, not, Bool, true, false, List, ◌∷◌, ◌++◌, Option, Some, nat_lt, slice_get}
+use Rattle.std.specs.Prelude.{◌≡◌, ℕ, ◌+◌, ◌==◌, ◌&&◌, not, Bool, true, false, List, ◌∷◌, ◌++◌, Some, nat_lt, slice_get}
 use Rattle.std.specs.List.{AllByRecursion, list_any}
 use Rattle.core_regs.specs.declared.causes.Take.TheVariants.{Break, NonMaskable}
 use Rattle.isa_step.specs.Deeds.{View}

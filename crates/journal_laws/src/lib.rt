@@ -1,7 +1,12 @@
-//! Three laws that are read off a journal, whatever program wrote it: the link law, the take law and the progress bound.
+//! Laws that are read off a journal, whatever program wrote it: the link law, the take law, the law of breaks and the
+//! progress bound.
 //!
-//! Each is stated over entries and rows of the board file alone (`specs/`), so that a journal file can be checked against
-//! it by hand. There is no code here: each function is a law of the board machine, whose statement is its clause.
+//! Each is stated over entries and rows of the board file alone (`specs/LinkLaw.antt` and its neighbours), so that a journal
+//! file can be checked against it by hand. There is no code here: each function is a law, whose statement is its clause, of
+//! the board machine (`.._holds`) or of the law itself by small journals that it keeps and refuses (`.._is_tested`).
+//!
+//! So by `link_law_holds` an item that a journal says came out of a link is the oldest one that had gone in, and by
+//! `take_law_holds` an interrupt was taken at the first act that let one in while the line was high.
 #![tactic(auto)]
 
 ghost use Rattle.journal_laws.specs.BreakTests.{BreakLawIsTested};
