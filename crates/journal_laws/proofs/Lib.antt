@@ -22,6 +22,7 @@ pub mod Orders
 pub mod PaceCycles
 pub mod BreakRuns
 pub mod Joins
+pub mod AllLaws
 pub mod LinkOrder
 pub mod LinkTests
 pub mod TakeTests

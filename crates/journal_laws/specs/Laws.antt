@@ -58,3 +58,13 @@ pub record RestIsRecorded : Type 0 where
 
 pub record BreakLawHolds : Type 0 where
   pub law : (b : BoardFile) (views : List View) (inputs : Inputs) (count : ℕ) (w : World) → RanCycles b views inputs count w → BreakLaw b.events views w.fabric.journal
+
+-- what the journal of a run by cycles can be relied on for
+pub record HasLaws (b : BoardFile) (views : List View) (w : World) : Type 0 where
+  pub links : LinkLaw b.links w.fabric.journal
+  pub takes : (core : ℕ) (s : CoreAt) (first : View) → slice_get w.cores core ≡ Some s → slice_get views core ≡ Some first → TakeLaw b.events first core s.acts w.fabric.journal
+  pub breaks : BreakLaw b.events views w.fabric.journal
+  pub progress : ProgressBound (order_of b) b.links views w.fabric.journal
+
+pub record RunsHaveLaws : Type 0 where
+  pub laws : (b : BoardFile) (views : List View) (inputs : Inputs) (count : ℕ) (w : World) → RanCycles b views inputs count w → HasLaws b views w

@@ -10,7 +10,7 @@
 #![tactic(auto)]
 
 ghost use Rattle.journal_laws.specs.BreakTests.{BreakLawIsTested};
-ghost use Rattle.journal_laws.specs.Laws.{BreakLawHolds, LinkLawHolds, ProgressBoundHolds, RestIsRecorded, RunsJoin, TakeLawHolds};
+ghost use Rattle.journal_laws.specs.Laws.{BreakLawHolds, LinkLawHolds, ProgressBoundHolds, RestIsRecorded, RunsHaveLaws, RunsJoin, TakeLawHolds};
 ghost use Rattle.journal_laws.specs.LinkOrder.{LinksKeepOrder};
 ghost use Rattle.journal_laws.specs.LinkTests.{LinkLawIsTested};
 ghost use Rattle.journal_laws.specs.ProgressTests.{ProgressBoundIsTested};
@@ -58,6 +58,12 @@ pub fn rest_is_recorded()
 #[tactic(auto, using(crate::proofs::Joins::runs_join))]
 pub fn runs_join()
     ensures { RunsJoin }
+{}
+
+/// The journal of every run by cycles has all of these laws, in one statement for those who run boards.
+#[tactic(auto, using(crate::proofs::AllLaws::runs_have_laws))]
+pub fn runs_have_laws()
+    ensures { RunsHaveLaws }
 {}
 
 /// The link law keeps small journals that are right, and refuses small ones that are not.
