@@ -7,6 +7,7 @@ use Rattle.board_machine.specs.Cycles.{Cycles, events_of}
 use Rattle.board_machine.specs.World.{Inputs, Reached, Steps, World}
 use Rattle.board_machine.proofs.Keeping.{keeps_runs}
 use Rattle.journal_laws.specs.Laws.{RanCycles}
+use Rattle.journal_laws.proofs.AllLaws.{runs_have_laws}
 use Rattle.journal_laws.proofs.Joins.{runs_join}
 use Rattle.journal_laws.proofs.LinkRuns.{link_law_holds}
 use Rattle.journal_laws.proofs.PaceCycles.{progress_bound_holds}
@@ -17,7 +18,7 @@ pub has_laws : (b : BoardFile) (views : List View) (inputs : Inputs) (w : World)
 has_laws b views inputs w r = record { links = link_law_holds.law b views inputs w r; takes = take_law_holds.law b views inputs w r }
 
 pub has_progress : (b : BoardFile) (views : List View) (inputs : Inputs) (cycles : ℕ) (w : World) → RanCycles b views inputs cycles w → HasProgress b views inputs cycles w
-has_progress b views inputs cycles w r = record { ran = r; bound = progress_bound_holds.law b views inputs cycles w r; pace = progress_bound_holds.at_end b views inputs cycles w r }
+has_progress b views inputs cycles w r = record { ran = r; laws = runs_have_laws.laws b views inputs cycles w r; pace = progress_bound_holds.at_end b views inputs cycles w r }
 
 pub keeps_laws : (old new : World) (es : List Event) → Steps old es new → KeepsLaws old new
 keeps_laws old new es h b views inputs r = has_laws b views inputs new (keeps_runs old new es h b views inputs r).reached

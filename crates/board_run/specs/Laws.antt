@@ -5,8 +5,7 @@ use Rattle.board_file.specs.declared.board.BoardFile.{BoardFile}
 use Rattle.board_machine.specs.World.{CoreAt, Inputs, Reached, World}
 use Rattle.journal_laws.specs.LinkLaw.{LinkLaw}
 use Rattle.journal_laws.specs.TakeLaw.{TakeLaw}
-use Rattle.journal_laws.specs.Progress.{ProgressBound}
-use Rattle.journal_laws.specs.Laws.{KeepsPace, RanCycles, order_of}
+use Rattle.journal_laws.specs.Laws.{HasLaws as HasRunLaws, KeepsPace, RanCycles}
 
 -- the journal of a board that began with these views has the link law, and each core has the take law
 pub record HasLaws (b : BoardFile) (views : List View) (w : World) : Type 0 where
@@ -14,10 +13,11 @@ pub record HasLaws (b : BoardFile) (views : List View) (w : World) : Type 0 wher
   pub takes : (core : ℕ) (s : CoreAt) (first : View) → slice_get w.cores core ≡ Some s → slice_get views core ≡ Some first
       → TakeLaw b.events first core s.acts w.fabric.journal
 
--- a board that ran so many cycles: its journal has the progress bound, and so has each core that goes on
+-- a board that ran so many cycles: its journal has all laws, the progress bound among them, and each core that goes on keeps
+-- its pace
 pub record HasProgress (b : BoardFile) (views : List View) (inputs : Inputs) (cycles : ℕ) (w : World) : Type 0 where
   pub ran : RanCycles b views inputs cycles w
-  pub bound : ProgressBound (order_of b) b.links views w.fabric.journal
+  pub laws : HasRunLaws b views w
   pub pace : KeepsPace b views cycles w
 
 -- whatever the board, the views and the inputs were: where the board stood for the end of a list of steps from its

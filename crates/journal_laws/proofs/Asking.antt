@@ -238,6 +238,7 @@ awake_agrees here o a m s false = reply_agrees a (wants here o a m) s (want_agre
 pub record IsTake (v : View) (s : Shown) (deed : Deed) : Type 0 where
   pub take : Take
   pub due : take_due (here_of v) (bare v.arch) s ≡ Some take
+  pub runs : v.arch.stopped ≡ None
   pub is : deed ≡ takes (bare v.arch) take
 
 pub record IsInstruction (v : View) (s : Shown) (deed : Deed) : Type 0 where
@@ -255,7 +256,7 @@ instruction_by v s deed false e c a h = record {
 
 split_by : (v : View) (s : Shown) (deed : Deed) (t : Option Take) (c : Option StopCause) → take_due (here_of v) (bare v.arch) s ≡ t → v.arch.stopped ≡ c → due_by (here_of v) (operands_of (here_of v) v.arch.regs) (bare v.arch) v.memory s t c ≡ Does deed → IsTake v s deed ⊎ IsInstruction v s deed
 split_by v s deed t (Some cause) e c h = cc
-split_by v s deed (Some t) None e c h = inl (record { take = t; due = e; is = cc })
+split_by v s deed (Some t) None e c h = inl (record { take = t; due = e; runs = c; is = cc })
 split_by v s deed None None e c h = inr (instruction_by v s deed v.arch.asleep e c refl h)
 
 pub act_splits : (v : View) (s : Shown) (deed : Deed) → due v s ≡ Does deed → IsTake v s deed ⊎ IsInstruction v s deed

@@ -13,7 +13,7 @@ use Rattle.journal_laws.specs.TakeLaw.{breaks_of, has_break}
 use Rattle.journal_laws.proofs.Truths.{or_cases, or_left, or_right}
 use Rattle.journal_laws.proofs.Takes.{Account, flag_at, flag_of}
 
-pub any_more : (p q : EventRow → Bool) (rs : List EventRow) → ((r : EventRow) → p r ≡ true → q r ≡ true) → list_any p rs ≡ true → list_any q rs ≡ true
+pub any_more : {X : Type 0} (p q : X → Bool) (rs : List X) → ((r : X) → p r ≡ true → q r ≡ true) → list_any p rs ≡ true → list_any q rs ≡ true
 any_more p q [] i h = h
 any_more p q (r ∷ rs) i h = elim (or_cases (p r) (list_any p rs) h) [
   | inl e ↦ or_left (q r) (list_any q rs) (i r e)
@@ -101,7 +101,7 @@ given_counts core kind (r ∷ rs) pending =
 
 -- those that have come and those to come
 
-keep_by : (q : EventRow → Bool) (r : EventRow) (rs : List EventRow) (t : Bool) → q r ≡ t → filter q (r ∷ rs) ≡ cond t (r ∷ filter q rs) (filter q rs)
+pub keep_by : (q : EventRow → Bool) (r : EventRow) (rs : List EventRow) (t : Bool) → q r ≡ t → filter q (r ∷ rs) ≡ cond t (r ∷ filter q rs) (filter q rs)
 keep_by q r rs true h = rw h refl
 keep_by q r rs false h = rw h refl
 

@@ -14,11 +14,17 @@ pub mod Pace
 pub mod Paces
 pub mod PaceTicks
 pub mod ActEntries
+pub mod Recorded
+pub mod Breaks
+pub mod BreakTicks
 pub mod PaceRuns
 pub mod Orders
 pub mod PaceCycles
+pub mod BreakRuns
 pub mod Joins
+pub mod AllLaws
 pub mod LinkOrder
 pub mod LinkTests
 pub mod TakeTests
 pub mod ProgressTests
+pub mod BreakTests

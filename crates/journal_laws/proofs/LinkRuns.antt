@@ -142,7 +142,6 @@ change_off false false s = tt
 law_parts : (cores : List CoreAt) → KeepsParts KeepsLaw cores
 unfolding KeepsLaw
 law_parts cores = record {
-  come = λ f k. k;
   devices = λ f d k. k;
   byte = λ f uart byte k. entered_valid no_core 0 (Left uart byte) f tt k;
   latch = λ core f k.
@@ -155,7 +154,7 @@ law_parts cores = record {
 
 pub step_valid : (w v : World) (e : Event) → Step w e v → IsValidIn w.fabric → IsValidIn v.fabric
 unfolding KeepsLaw
-step_valid w v Devices h k = subst (λ (v : World). IsValidIn v.fabric) (sym h) (devices_keep KeepsLaw w.cores law_joins (law_parts w.cores) w.fabric k)
+step_valid w v Devices h k = subst (λ (v : World). IsValidIn v.fabric) (sym h) (devices_keep KeepsLaw w.cores law_joins (law_parts w.cores) (λ f k. k) w.fabric k)
 step_valid w v Host h k = subst (λ (v : World). IsValidIn v.fabric) (sym h) (host_valid w.fabric (length w.fabric.rows) k)
 step_valid w v (Tick core) h k = tick_valid core (due h.was.view (shown w.fabric core)) h.was w.fabric h.is v.fabric refl h.may k
 step_valid w v Next h k = subst (λ (v : World). IsValidIn v.fabric) (sym h) k

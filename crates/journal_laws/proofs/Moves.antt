@@ -42,7 +42,6 @@ host_keeps R j sent got f (suc n) =
 -- the step of the devices
 
 pub record KeepsParts (R : Fabric → Fabric → Type 0) (cores : List CoreAt) : Type 0 where
-  pub come : (f : Fabric) → R f (breaks_come f)
   pub devices : (f : Fabric) (d : Devices) → R f (with_devices d f)
   pub byte : (f : Fabric) (uart byte : ℕ) → R f (entered no_core 0 (Left uart byte) f)
   pub latch : (core : ℕ) (f : Fabric) → R f (line_latched cores core f)
@@ -69,9 +68,13 @@ moved_keeps R cores j p f =
     (j.then f t u (p.devices f t.devices) (order_keeps R uart_moved j.itself j.then (λ k f. uart_keeps R cores j p k f (is_turn f.cycle (slice_get f.bus.uarts k))) (length f.bus.uarts) t))
     (p.devices u (devices_moved f).devices)
 
-pub devices_keep : (R : Fabric → Fabric → Type 0) (cores : List CoreAt) (j : Joins R) → KeepsParts R cores → (f : Fabric) → R f (devices_done cores f)
+-- after the breaks have come
+pub later_keeps : (R : Fabric → Fabric → Type 0) (cores : List CoreAt) (j : Joins R) → KeepsParts R cores → (f : Fabric) → R (breaks_come f) (devices_done cores f)
 unfolding devices_done
-devices_keep R cores j p f =
+later_keeps R cores j p f =
     let b = breaks_come f in
     let g = devices_moved b in
-    j.then f g (devices_done cores f) (j.then f b g (p.come f) (moved_keeps R cores j p b)) (order_keeps R (line_latched cores) j.itself j.then p.latch (length cores) g)
+    j.then b g (devices_done cores f) (moved_keeps R cores j p b) (order_keeps R (line_latched cores) j.itself j.then p.latch (length cores) g)
+
+pub devices_keep : (R : Fabric → Fabric → Type 0) (cores : List CoreAt) (j : Joins R) → KeepsParts R cores → ((f : Fabric) → R f (breaks_come f)) → (f : Fabric) → R f (devices_done cores f)
+devices_keep R cores j p come f = j.then f (breaks_come f) (devices_done cores f) (come f) (later_keeps R cores j p f)

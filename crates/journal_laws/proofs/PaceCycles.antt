@@ -57,11 +57,11 @@ good_calm order rows views w g = record { has_rows = g.has_rows; past = g.past; 
 
 -- entries that no tick made
 
-IsOffTicks : Option What → Type 0
+unfoldable pub IsOffTicks : Option What → Type 0
 IsOffTicks None = Unit {0}
 IsOffTicks (Some what) = by_tick what ≡ false
 
-off_pending : (core : ℕ) (what : What) (pending : List Breaks) → by_tick what ≡ false → pending_after core what pending ≡ pending
+pub off_pending : (core : ℕ) (what : What) (pending : List Breaks) → by_tick what ≡ false → pending_after core what pending ≡ pending
 off_pending core LineUp pending h = refl
 off_pending core LineDown pending h = refl
 off_pending core (HostSent link item) pending h = refl
@@ -85,7 +85,7 @@ unfolding KeepsCalm IsOffTicks
 some_calm order rows views cores by act None f h k = k
 some_calm order rows views cores by act (Some what) f h k = entered_calm order rows views cores f by act what h k
 
-change_off : (new old : Bool) → IsOffTicks (line_change new old)
+pub change_off : (new old : Bool) → IsOffTicks (line_change new old)
 unfolding IsOffTicks
 change_off true true = tt
 change_off true false = refl
@@ -137,7 +137,6 @@ come_calm order rows views cores f k = record {
 calm_parts : (order : ℕ → List ℕ) (rows : List LinkRow) (views : List View) (cores : List CoreAt) → KeepsParts (KeepsCalm order rows views cores) cores
 unfolding KeepsCalm
 calm_parts order rows views cores = record {
-  come = come_calm order rows views cores;
   devices = λ f d k. record { has_rows = k.has_rows; past = k.past; law = k.law; pace = k.pace };
   byte = λ f uart byte k. entered_calm order rows views cores f no_core 0 (Left uart byte) refl k;
   latch = latch_calm order rows views cores;
@@ -156,7 +155,7 @@ devices_good : (order : ℕ → List ℕ) (rows : List LinkRow) (views : List Vi
 unfolding KeepsCalm
 devices_good order rows views w v h g =
     let l = step_valid w v Devices h g.valid in
-    calm_good order rows views v l (subst (λ (x : World). Calm order rows views x.cores x.fabric) (sym h) (devices_keep (KeepsCalm order rows views w.cores) w.cores (calm_joins order rows views w.cores) (calm_parts order rows views w.cores) w.fabric (good_calm order rows views w g)))
+    calm_good order rows views v l (subst (λ (x : World). Calm order rows views x.cores x.fabric) (sym h) (devices_keep (KeepsCalm order rows views w.cores) w.cores (calm_joins order rows views w.cores) (calm_parts order rows views w.cores) (come_calm order rows views w.cores) w.fabric (good_calm order rows views w g)))
 
 host_good : (order : ℕ → List ℕ) (rows : List LinkRow) (views : List View) (w v : World) → Step w Host v → Good order rows views [] w → Good order rows views [] v
 unfolding KeepsCalm

@@ -1,14 +1,10 @@
 -- Every tick of the board machine keeps the progress bound.
-use Rattle.std.proofs.Common.{◌≡◌, ℕ, ◌+◌, ◌*◌, ◌≤◌, ◌&&◌, ◌||◌, ◌==◌, List, [], ◌∷◌, ◌++◌, Option, Some, None, refl, ap, sym, ◌∙◌, subst, inl, inr, ◌⊎◌, slice_get, Bool, true, false, cond, option_to_list}
+use Rattle.std.proofs.Common.{◌≡◌, ℕ, ◌+◌, ◌*◌, ◌≤◌, ◌&&◌, ◌||◌, List, [], ◌∷◌, ◌++◌, Option, Some, refl, ap, sym, ◌∙◌, subst, inl, inr, ◌⊎◌, slice_get, Bool, true, false, cond, option_to_list}
 use Rattle.std.specs.List.{list_any, AllByRecursion}
 use Rattle.std.specs.Option.{is_some}
-use Rattle.std.proofs.lemmas.List.{append-nil, append_assoc, map-append}
-use Rattle.std.proofs.lemmas.Bool.{cases_eq, eqb-true}
+use Rattle.std.proofs.lemmas.List.{append-nil}
+use Rattle.std.proofs.lemmas.Bool.{cases_eq}
 use Rattle.core_regs.specs.declared.causes.WaitOn.{WaitOn}
-use Rattle.isa_step.specs.declared.acts.Act.{Act}
-use Rattle.isa_step.specs.declared.acts.Act.TheVariants as acts
-use Rattle.isa_step.specs.declared.acts.Action.{Action}
-use Rattle.isa_step.specs.declared.acts.Action.TheVariants as action
 use Rattle.isa_step.specs.declared.acts.Breaks.{Breaks}
 use Rattle.isa_step.specs.declared.acts.Hopes.{Hopes}
 use Rattle.isa_step.specs.Deeds.{View, Deed, Due, Does, Waits, Sleeps, Ends, Stops, after}
@@ -20,20 +16,19 @@ use Rattle.run_journal.specs.declared.entry.What.{What}
 use Rattle.run_journal.specs.declared.entry.What.TheVariants.{Wait}
 use Rattle.board_machine.specs.declared.events.Event.TheVariants.{Tick}
 use Rattle.board_machine.specs.Bus.{DeviceRows}
-use Rattle.board_machine.specs.Fabric.{Fabric, act_leaves, entered, entered_some, entries_of_action, entry_of, entry_of_act, entry_of_action, hopes_at, is_act, is_break, is_kept, is_on, is_wait, kept_wait, or_none, shown}
+use Rattle.board_machine.specs.Fabric.{Fabric, act_leaves, entered, entries_of_action, entry_of_act, hopes_at, is_break, is_kept, is_on, kept_wait, or_none, shown}
 use Rattle.board_machine.specs.World.{CoreAt, IsAct, IsFilling, IsIdle, TickMay, TickStep, World}
-use Rattle.board_machine.proofs.Lists.{all_append}
 use Rattle.board_machine.proofs.Staying.{hoped}
 use Rattle.board_machine.proofs.Tells.{which}
-use Rattle.journal_laws.specs.Progress.{ProgressBound, as_one, by_tick, has, is_rest, is_shut, rests_below, rests_in, ticks_below}
+use Rattle.journal_laws.specs.Progress.{ProgressBound, as_one, has, is_rest, is_shut, rests_below, rests_in, ticks_below}
 use Rattle.journal_laws.proofs.ActEntries.{TickOut, act_out, all_tick, deed_acts, deed_whats, none_waits, some_out, still_out}
 use Rattle.journal_laws.proofs.Asking.{wait_shows}
 use Rattle.journal_laws.proofs.Gone.{gone_acts, gone_waits}
 use Rattle.journal_laws.proofs.LinkRuns.{IsValidIn, none_stands, step_valid}
-use Rattle.journal_laws.proofs.Lists.{cons_append}
 use Rattle.journal_laws.proofs.Outcomes.{Gone, SaysRest, act_says, ends_gone, sleeps_asleep, stops_stopped, waits_at}
 use Rattle.journal_laws.proofs.Pace.{all_imply, has_other, is_past, past_more}
-use Rattle.journal_laws.proofs.Paces.{Pace, kept_more, no_wait}
+use Rattle.journal_laws.proofs.Paces.{Pace}
+use Rattle.journal_laws.proofs.Recorded.{kept_is}
 use Rattle.journal_laws.proofs.PaceTicks.{Acted, AllTick, AtTick, Rested, act_pace, asleep_rests, entry_bound, fill_pace, idle_pace, kept_rests, law_list, made, others_pace, past_list, shut_is, stopped_rests, wait_pace}
 
 -- what can come to a core is told by rows, breaks that are left and its pending ones
@@ -102,10 +97,6 @@ does order rows i done rest was before is later deed t d f =
           (acted i deed was before is later f (act_says was.view (shown before i) deed d)) never kept p);
       bound = inr (λ first p. entry_bound order rows first i before.cycle done rest before.journal was (hopes_at before i) t never p);
     })
-
-kept_is : (o : Option ℕ) (act : ℕ) → is_act o act ≡ true → o ≡ Some act
-kept_is None act h = cc
-kept_is (Some a) act h = ap Some (eqb-true a act h)
 
 waits : (order : ℕ → List ℕ) (rows : List LinkRow) (i : ℕ) (done rest : List ℕ) (was : CoreAt) (before : Fabric) (is : CoreAt) (later : Fabric) (on : WaitOn) (kept : Bool) → AtTick order i before.cycle done rest before.journal → due was.view (shown before i) ≡ Waits on.port on.full
     → is_shut rows before.journal i on.port on.full ≡ true → is_kept i was.acts before.journal ≡ kept → IsIdle was (cond kept before (entered i was.acts (Wait on) before)) is later → OwnTick order rows i done rest was before is later

@@ -33,7 +33,7 @@ use Rattle.journal_laws.proofs.Truths.{or_false}
 use Rattle.journal_laws.proofs.Takes.{Account, flag_at, flag_of, right_same, determined_same}
 
 -- an entry of another act is on no tape of this one
-own_tapes : (journal : List Entry) (e : Entry) (core k : ℕ) → (e.act ≡ k → ⊥) → tape (journal ++ e ∷ []) core k ≡ tape journal core k
+pub own_tapes : (journal : List Entry) (e : Entry) (core k : ℕ) → (e.act ≡ k → ⊥) → tape (journal ++ e ∷ []) core k ≡ tape journal core k
 own_tapes journal e core k n = filter_skips (is_of_act core k) journal e (and_false_left (e.core == core && e.act == k) (is_response e.what) (and_false_right (e.core == core) (e.act == k) (ne_eqb e.act k n)))
 
 -- an account in the midst of an act
@@ -82,14 +82,14 @@ taken_more journal core act cycle kind what false h =
 
 -- an instruction
 
-record IsPlain (what : What) : Type 0 where
-  change : is_change what ≡ false
-  latches : line_told what ≡ None
-  take : (kind : Bool) → takes_break kind what ≡ false
-  pending : (core : ℕ) (pending : List Breaks) → pending_after core what pending ≡ pending
-  untaken : is_take what ≡ false
+pub record IsPlain (what : What) : Type 0 where
+  pub change : is_change what ≡ false
+  pub latches : line_told what ≡ None
+  pub take : (kind : Bool) → takes_break kind what ≡ false
+  pub pending : (core : ℕ) (pending : List Breaks) → pending_after core what pending ≡ pending
+  pub untaken : is_take what ≡ false
 
-IsPlainIf : Option What → Type 0
+unfoldable pub IsPlainIf : Option What → Type 0
 IsPlainIf None = Unit {0}
 IsPlainIf (Some what) = IsPlain what
 
@@ -105,12 +105,12 @@ action_plain s (action.ReadRefused p) h = record { change = refl; latches = refl
 action_plain s (action.Wrote p w) h = record { change = refl; latches = refl; take = λ k. refl; pending = λ c ps. refl; untaken = refl }
 action_plain s (action.WriteRefused p w) h = record { change = refl; latches = refl; take = λ k. refl; pending = λ c ps. refl; untaken = refl }
 
-actions_plain : (s : Shown) (o : Option Action) → AgreesIf s (entries_of_action o) → IsPlainIf (entries_of_action o)
+pub actions_plain : (s : Shown) (o : Option Action) → AgreesIf s (entries_of_action o) → IsPlainIf (entries_of_action o)
 unfolding IsPlainIf
 actions_plain s None h = tt
 actions_plain s (Some a) h = action_plain s a h
 
-act_plain : (a : Act) → IsPlainIf (entry_of_act a)
+pub act_plain : (a : Act) → IsPlainIf (entry_of_act a)
 unfolding IsPlainIf
 act_plain acts.Retired = tt
 act_plain acts.Slept = record { change = refl; latches = refl; take = λ k. refl; pending = λ c ps. refl; untaken = refl }
@@ -227,7 +227,7 @@ unfolding flag_of
 none_flagged true = refl
 none_flagged false = refl
 
-flag_taken : (t : Take) (kind : Bool) (pending : List Breaks) (core : ℕ) (o : Option Breaks) → slice_get pending core ≡ o → flag_at (set_some pending core (cleared t) o) core kind ≡ flag_at pending core kind && not (takes_break kind (Took t))
+pub flag_taken : (t : Take) (kind : Bool) (pending : List Breaks) (core : ℕ) (o : Option Breaks) → slice_get pending core ≡ o → flag_at (set_some pending core (cleared t) o) core kind ≡ flag_at pending core kind && not (takes_break kind (Took t))
 flag_taken t kind pending core None e =
     let z : flag_at pending core kind ≡ false = ap (λ (o : Option Breaks). flag_of kind (or_none o)) e ∙ none_flagged kind in
     z ∙ ap (λ b. b && not (takes_break kind (Took t))) (sym z)

@@ -16,7 +16,7 @@ use Rattle.run_journal.specs.Files.{tape}
 use Rattle.board_machine.specs.declared.events.Event.{Event}
 use Rattle.board_machine.specs.declared.events.Event.TheVariants.{Devices, Host, Tick, Next}
 use Rattle.board_machine.specs.DeviceMoves.{line_change, line_driven}
-use Rattle.board_machine.specs.Fabric.{Fabric, act_leaves, entered, entered_some, entries_of_action, entry_of_act, host_moves, is_kept, no_breaks, no_core, or_low, shown, waited}
+use Rattle.board_machine.specs.Fabric.{Fabric, act_leaves, breaks_come, entered, entered_some, entries_of_action, entry_of_act, host_moves, is_kept, no_breaks, no_core, or_low, shown, waited}
 use Rattle.board_machine.specs.History.{Tells, view_told}
 use Rattle.board_machine.specs.World.{CoreAt, Inputs, IsAct, Reached, Start, Step, Steps, TickMay, TickStep, World, acts_of, line_latched}
 use Rattle.board_machine.proofs.Keeping.{keeps_runs, wired}
@@ -87,10 +87,13 @@ latch_by breaks first cores core s by new old f q (inl e) =
 latch_keeps : (breaks : List EventRow) (first : View) (cores : List CoreAt) (core : ℕ) (s : CoreAt) → slice_get cores core ≡ Some s → (by : ℕ) (f : Fabric) → KeepsAccount breaks first core s.acts f (line_latched cores by f)
 latch_keeps breaks first cores core s q by f = latch_by breaks first cores core s by (line_driven f by) (or_low (slice_get f.lines by)) f q (cases_eq by core)
 
+account_come : (breaks : List EventRow) (first : View) (core acts : ℕ) (f : Fabric) → KeepsAccount breaks first core acts f (breaks_come f)
+unfolding KeepsAccount
+account_come breaks first core acts f a = record { line = a.line; account = come_account breaks first core acts a.line f a.account }
+
 account_parts : (breaks : List EventRow) (first : View) (cores : List CoreAt) (core : ℕ) (s : CoreAt) → slice_get cores core ≡ Some s → KeepsParts (KeepsAccount breaks first core s.acts) cores
 unfolding KeepsAccount
 account_parts breaks first cores core s q = record {
-  come = λ f a. record { line = a.line; account = come_account breaks first core s.acts a.line f a.account };
   devices = λ f d a. record { line = a.line; account = record { right = a.account.right; has_line = a.account.has_line; is_high = a.account.is_high; enough = a.account.enough; come = a.account.come; all_from = a.account.all_from } };
   byte = λ f uart byte. nothing_keeps breaks first core s.acts no_core 0 (Left uart byte) f (record { response = refl; change = refl; take = λ k. refl; latches = refl; pending = λ c ps. refl });
   latch = latch_keeps breaks first cores core s q;
@@ -169,7 +172,7 @@ unfolding KeepsAccount
 step_each breaks views w v (Tick core) h a k s first q r = ticked_at breaks views core w v h k s first a r (which core k w v h s (cases_eq k core) q)
 step_each breaks views w v Devices h a core s first q r =
     let there : slice_get w.cores core ≡ Some s = ap (λ (x : World). slice_get x.cores core) (sym h) ∙ q in
-    subst (λ (x : World). HasAccount breaks first core s.acts x.fabric) (sym h) (devices_keep (KeepsAccount breaks first core s.acts) w.cores (account_joins breaks first core s.acts) (account_parts breaks first w.cores core s there) w.fabric (a.each core s first there r))
+    subst (λ (x : World). HasAccount breaks first core s.acts x.fabric) (sym h) (devices_keep (KeepsAccount breaks first core s.acts) w.cores (account_joins breaks first core s.acts) (account_parts breaks first w.cores core s there) (account_come breaks first core s.acts) w.fabric (a.each core s first there r))
 step_each breaks views w v Host h a core s first q r =
     subst (λ (x : World). HasAccount breaks first core s.acts x.fabric) (sym h) (host_account breaks first core s.acts w.fabric (length w.fabric.rows) (a.each core s first (ap (λ (x : World). slice_get x.cores core) (sym h) ∙ q) r))
 step_each breaks views w v Next h a core s first q r =

@@ -15,7 +15,7 @@ use Rattle.board_machine.specs.History.{may_take_at, view_told}
 use Rattle.journal_laws.specs.TakeLaw.{IsRightAct, TakeLaw, breaks_of, breaks_taken, may_break, may_interrupt}
 use Rattle.journal_laws.specs.TakeTests.{TakeLawIsTested, at_act, one_break, takes_interrupt}
 
-first_determined : (first : View) (journal : List Entry) → view_told first journal 0 0 ≡ Some first
+pub first_determined : (first : View) (journal : List Entry) → view_told first journal 0 0 ≡ Some first
 unfolding state_after
 first_determined first journal = refl
 
@@ -74,7 +74,7 @@ first_act breaks first journal law = law.right 0 (omega arith)
 some_left : (e : Entry) → e ∷ [] ≡ [] → ⊥
 some_left e h = cc
 
-no_such : false ≡ true → ⊥
+pub no_such : false ≡ true → ⊥
 no_such e = cc
 
 pub take_law_is_tested : TakeLawIsTested

@@ -1,15 +1,18 @@
 -- What is proved of every journal of the board machine.
 use Rattle.std.specs.Prelude.{◌≡◌, ℕ, ◌+◌, ◌*◌, ◌≤◌, List, Some, map, slice_get}
+use Rattle.std.specs.Option.{is_some}
 use Rattle.isa_step.specs.Deeds.{View, Ends}
 use Rattle.isa_step.specs.Due.{due}
 use Rattle.board_file.specs.declared.board.BoardFile.{BoardFile}
 use Rattle.board_file.specs.declared.board.CoreRow.{CoreRow}
+use Rattle.run_journal.specs.declared.entry.Entry.{Entry}
 use Rattle.board_machine.specs.Cycles.{Cycles}
-use Rattle.board_machine.specs.Fabric.{shown}
+use Rattle.board_machine.specs.Fabric.{is_kept, shown}
 use Rattle.board_machine.specs.World.{CoreAt, Inputs, Reached, Start, World}
+use Rattle.journal_laws.specs.BreakLaw.{BreakLaw}
 use Rattle.journal_laws.specs.LinkLaw.{LinkLaw}
 use Rattle.journal_laws.specs.TakeLaw.{TakeLaw}
-use Rattle.journal_laws.specs.Progress.{ProgressBound, rests_below, ticking, ticks_below}
+use Rattle.journal_laws.specs.Progress.{ProgressBound, asleep_recorded, rests_below, stopped_recorded, ticking, ticks_below, wait_recorded}
 
 pub record LinkLawHolds : Type 0 where
   pub law : (b : BoardFile) (views : List View) (inputs : Inputs) (w : World) → Reached b views inputs w → LinkLaw b.links w.fabric.journal
@@ -42,3 +45,26 @@ pub record ProgressBoundHolds : Type 0 where
 pub record RunsJoin : Type 0 where
   pub join : (b : BoardFile) (views : List View) (inputs : Inputs) (count more : ℕ) (old new : World) → RanCycles b views inputs count old → Cycles old more new → RanCycles b views inputs (count + more) new
   pub reached : (b : BoardFile) (views : List View) (inputs : Inputs) (count : ℕ) (w : World) → RanCycles b views inputs count w → Reached b views inputs w
+
+-- sleep, stop and a kept wait of a core are what its entries record
+pub record IsRecorded (first : View) (core : ℕ) (s : CoreAt) (journal : List Entry) : Type 0 where
+  pub asleep : asleep_recorded first core journal ≡ s.view.arch.asleep
+  pub stopped : stopped_recorded first core journal ≡ is_some s.view.arch.stopped
+  pub waits : is_some (wait_recorded core journal) ≡ is_kept core s.acts journal
+
+pub record RestIsRecorded : Type 0 where
+  pub law : (b : BoardFile) (views : List View) (inputs : Inputs) (w : World) → Reached b views inputs w
+      → (core : ℕ) (s : CoreAt) (first : View) → slice_get w.cores core ≡ Some s → slice_get views core ≡ Some first → IsRecorded first core s w.fabric.journal
+
+pub record BreakLawHolds : Type 0 where
+  pub law : (b : BoardFile) (views : List View) (inputs : Inputs) (count : ℕ) (w : World) → RanCycles b views inputs count w → BreakLaw b.events views w.fabric.journal
+
+-- what the journal of a run by cycles can be relied on for
+pub record HasLaws (b : BoardFile) (views : List View) (w : World) : Type 0 where
+  pub links : LinkLaw b.links w.fabric.journal
+  pub takes : (core : ℕ) (s : CoreAt) (first : View) → slice_get w.cores core ≡ Some s → slice_get views core ≡ Some first → TakeLaw b.events first core s.acts w.fabric.journal
+  pub breaks : BreakLaw b.events views w.fabric.journal
+  pub progress : ProgressBound (order_of b) b.links views w.fabric.journal
+
+pub record RunsHaveLaws : Type 0 where
+  pub laws : (b : BoardFile) (views : List View) (inputs : Inputs) (count : ℕ) (w : World) → RanCycles b views inputs count w → HasLaws b views w

@@ -1,8 +1,10 @@
 pub mod LinkLaw
 pub mod TakeLaw
 pub mod Progress
+pub mod BreakLaw
 pub mod Laws
 pub mod LinkOrder
 pub mod LinkTests
 pub mod TakeTests
 pub mod ProgressTests
+pub mod BreakTests
