@@ -1,4 +1,4 @@
-ghost use Rattle.std.specs.Prelude.{◌≡◌, ◌+◌, ◌*◌, ◌<◌, ◌≤◌, ◌^◌, List, ℕ, length};
+ghost use Rattle.std.specs.Prelude.{◌≡◌, ◌+◌, ◌*◌, ◌<◌, ◌≤◌, ◌^◌, List, ℕ, get_or, length};
 ghost use Rattle.asm_layout.specs.declared.piece.Piece.{Piece};
 ghost use Rattle.asm_layout.specs.Layout.{Numbers, place};
 ghost use Rattle.asm_layout.specs.Places.{AreBelow, ArePlaces, member};
@@ -10,6 +10,7 @@ pub fn place_at(places: &[u64], k: usize) -> u64
     requires { 0 < length places.now }
     ensures place { (all : List Piece) (F : Numbers) → length places.now ≡ length all + 1 → ArePlaces all F (length all) places.now → result ≡ place all F k }
     ensures below { (n : ℕ) → length places.now ≡ n + 1 → AreBelow n places.now → result < 2 ^ 62 }
+    ensures near { (limit : ℕ) → ((j : ℕ) → j < length places.now → get_or places.now j 0 ≤ limit) → result ≤ limit }
 {
     places[k.min(places.len() - 1)]
 }

@@ -1,3 +1,4 @@
+pub mod Counting
 pub mod Defining
 pub mod Following
 pub mod LineByLine

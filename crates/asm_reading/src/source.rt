@@ -44,11 +44,13 @@ fn labels_of(alloc: Global, source: &[u8]) -> Result<LabelTable, NoMemory>
     Ok(labels)
 }
 
-/// What is read of a source: its items, its labels, where it begins, and the first fault of its lines.
+/// What is read of a source: its items, of which it has no more than bytes, its labels, where it begins, and the first
+/// fault of its lines.
 #[tactic(auto, unfolding(crate::specs::Reading::source_read))]
 pub fn read_source(alloc: Global, source: &[u8]) -> Result<Reading, NoMemory>
     requires { length source.now ≤ 2 ^ 22 }
-    ensures { IfOk result (λ reading. read_of reading ≡ source_read source.now) }
+    ensures read { IfOk result (λ reading. read_of reading ≡ source_read source.now) }
+    ensures few { IfOk result (λ reading. length reading.items.items ≤ length source.now) }
 {
     let labels = labels_of(alloc, source)?;
     let mut reading = Reading::new(alloc);

@@ -1,5 +1,5 @@
 -- What is answered to a source.
-use Rattle.std.proofs.Common.{◌≡◌, ℕ, ◌+◌, ◌<◌, Bool, List, [], ◌∷◌, length, map, get_or, Option, None, Some, refl, sym, ap, ◌∙◌, subst, inl, inr}
+use Rattle.std.proofs.Common.{◌≡◌, ℕ, ◌+◌, ◌<◌, ◌≤◌, arith, Bool, List, [], ◌∷◌, length, map, get_or, Option, None, Some, refl, sym, ap, ◌∙◌, subst, inl, inr}
 use Rattle.asm_layout.specs.declared.piece.Piece.{Piece}
 use Rattle.asm_layout.specs.Growing.{IsGrown}
 use Rattle.asm_layout.specs.Places.{AreBelow, ArePlaces, member}
@@ -20,7 +20,8 @@ use Rattle.asm_reading.specs.Reading.{source_read}
 use Rattle.mb_asm.specs.declared.laying.Laid.{Laid}
 use Rattle.mb_asm.specs.declared.answer.Assembled.{Assembled}
 use Rattle.mb_asm.specs.Assembly.{IsAssembled, IsBuiltOf, IsLaid, IsSecond, entry_at}
-use Rattle.mb_asm.specs.WordLines.{all_words, words_at, words_of}
+use Rattle.asm_source.proofs.Faultless.{faultless_is_near}
+use Rattle.mb_asm.specs.WordLines.{AreNear, all_words, words_at, words_of}
 
 -- the pieces of items, in one step
 pub two_maps : (all : List Written) → map (λ (w : Written). piece_of w.item) all ≡ pieces (items_of all)
@@ -58,6 +59,15 @@ built_by order all entry grown marks a parts same order_kept listed are plain be
 }
 
 -- ---- the second round
+
+-- no place of a source without a fault is past the limit
+pub near_by : (all : List Written) (grown : List Bool) (places laid : List ℕ) → places ≡ laid → length laid ≡ length all + 1 → ArePlaces (pieces (items_of all)) (member grown) (length all) laid
+    → least (second_faults all (member grown)) ≡ None → AreNear places
+near_by all grown places laid same room are sound k within =
+    let in_reach : k ≤ length all = omega (arith, within, ap length same, room) in
+    let here : get_or places k 0 ≡ place_of all (member grown) k = ap (λ ps. get_or ps k 0) same ∙ are k in_reach in
+    let near = faultless_is_near all (member grown) sound k in_reach in
+    omega arith
 
 module _ (source : List ℕ) (all : List Written) (grown marks : List Bool) (found : Option Fault) (same : all ≡ (source_read source).items) (even : marks ≡ grown) (sound : (source_read source).first ≡ None)
     (is_grown : IsGrown (pieces (items_of all)) (member grown)) (least_found : found ≡ least (second_faults all (member marks))) where

@@ -1,5 +1,5 @@
 -- The source lines of instruction words.
-use Rattle.std.specs.Prelude.{ℕ, ◌+◌, Bool, List, [], ◌∷◌, flat_map, length, if◌then◌else◌}
+use Rattle.std.specs.Prelude.{ℕ, ◌+◌, ◌<◌, ◌≤◌, Bool, List, [], ◌∷◌, flat_map, get_or, length, if◌then◌else◌}
 use Rattle.std.specs.List.{range_with_len}
 use Rattle.asm_layout.specs.Layout.{Numbers}
 use Rattle.asm_source.specs.declared.item.Item.{Item}
@@ -21,3 +21,7 @@ words_of all F k = words_at (place_of all F k) (prefixed (written all k).item (F
 -- all words of a source in the layout of F
 unfoldable pub all_words : List Written → Numbers → List Line
 all_words all F = flat_map (words_of all F) (range_with_len 0 (length all))
+
+-- no place is past the limit of addresses
+abbrev pub AreNear : List ℕ → Type 0
+AreNear places = (k : ℕ) → k < length places → get_or places k 0 ≤ 67_108_864

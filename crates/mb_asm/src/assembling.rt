@@ -1,15 +1,17 @@
 //! Assembling: reading, layout, and the image.
-ghost use Rattle.std.specs.Prelude.{◌≡◌, ◌+◌, ◌<◌, ◌≤◌, IfOk, List, length};
+ghost use Rattle.std.specs.Prelude.{◌≡◌, ◌+◌, ◌<◌, ◌≤◌, IfOk, List, None, length};
 ghost use Rattle.asm_layout.specs.Layout.{Numbers};
 ghost use Rattle.asm_layout.specs.Places.{ArePlaces, member};
 ghost use Rattle.asm_source.specs.declared.item.Written.{Written};
 ghost use Rattle.asm_source.specs.Items.{pieces};
-ghost use Rattle.asm_source.specs.Second.{items_of, place_of};
+ghost use Rattle.asm_source.specs.Faults.{least};
+ghost use Rattle.asm_source.specs.Second.{items_of, place_of, second_faults};
 ghost use Rattle.mb_asm.specs.Assembly.{Assembles, IsBuiltOf, IsLaid, entry_at};
+ghost use Rattle.mb_asm.specs.WordLines.{AreNear};
 
 use crate::answer::{AsmFault, Assembled, refusal};
 use crate::laying::{Laid, lay};
-use crate::word_lines::{address, lines_of};
+use crate::word_lines::lines_of;
 use asm_image::image_parts;
 use asm_layout::place_at;
 use asm_reading::read_source;
@@ -20,19 +22,17 @@ use host_io::NoMemory;
 use layout_faults::second_fault;
 use std::alloc::Global;
 
-/// More items than a source of 4,194,304 bytes can have.
-const MOST_ITEMS: usize = 0x100_0000;
-
 /// Where a program begins.
-fn entry_at(entry: Option<usize>, places: &[u64], parts: &[Part]) -> Result<u32, NoMemory>
-    requires { 0 < length places.now }
-    ensures { IfOk result (λ at. (all : List Written) (F : Numbers) → length places.now ≡ length all + 1 → ArePlaces (pieces (items_of all)) F (length all) places.now → at ≡ entry_at entry (place_of all F) parts.now) }
+fn entry_at(entry: Option<usize>, places: &[u64], parts: &[Part]) -> u32
+    requires some { 0 < length places.now }
+    requires near { AreNear places.now }
+    ensures { (all : List Written) (F : Numbers) → length places.now ≡ length all + 1 → ArePlaces (pieces (items_of all)) F (length all) places.now → result ≡ entry_at entry (place_of all F) parts.now }
 {
     match entry {
-        Some(item) => address(place_at(places, item)),
+        Some(item) => place_at(places, item) as u32,
         None => match parts {
-            [] => Ok(0),
-            [first, ..] => Ok(first.addr),
+            [] => 0,
+            [first, ..] => first.addr,
         },
     }
 }
@@ -45,13 +45,14 @@ fn build(
     entry: Option<usize>,
     laid: &Laid,
 ) -> Result<Assembled, NoMemory>
-    requires { IsLaid all.now laid.now }
+    requires laid { IsLaid all.now laid.now }
+    requires sound { least (second_faults all.now (member laid.now.grown.items)) ≡ None }
     ensures { IfOk result (λ a. IsBuiltOf order all.now entry (member laid.now.grown.items) a) }
 {
     let places = laid.places.as_slice();
     let grown = laid.grown.as_slice();
     let parts = image_parts(alloc, order, all, places, grown)?;
-    let entry = entry_at(entry, places, parts.as_slice())?;
+    let entry = entry_at(entry, places, parts.as_slice());
     let lines = lines_of(alloc, all, places, grown)?;
     let image = Image {
         order,
@@ -71,9 +72,6 @@ pub fn assemble(alloc: Global, source: &[u8], order: Order) -> Result<Assembled,
         return Err(refusal(fault));
     }
     let all = reading.items.as_slice();
-    if MOST_ITEMS < all.len() {
-        return Err(AsmFault::NoMemory);
-    }
     let laid = lay(alloc, all)?;
     let places = laid.places.as_slice();
     let grown = laid.grown.as_slice();

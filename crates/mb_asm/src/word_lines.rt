@@ -1,9 +1,9 @@
 //! The source lines of instruction words.
-ghost use Rattle.std.specs.Prelude.{◌≡◌, ◌+◌, ◌<◌, ◌++◌, IfOk, IfSome, OnOk, length, slice_get};
+ghost use Rattle.std.specs.Prelude.{◌≡◌, ◌+◌, ◌≤◌, ◌++◌, IfOk, OnOk, length, slice_get};
 ghost use Rattle.asm_layout.specs.Places.{ArePlaces, member};
 ghost use Rattle.asm_source.specs.Items.{pieces};
 ghost use Rattle.asm_source.specs.Second.{items_of};
-ghost use Rattle.mb_asm.specs.WordLines.{all_words, words_at};
+ghost use Rattle.mb_asm.specs.WordLines.{AreNear, all_words, words_at};
 
 use asm_source::{Item, Written};
 use host_io::NoMemory;
@@ -48,16 +48,6 @@ impl Lines {
     }
 }
 
-/// A place as an address.
-pub fn address(place: u64) -> Result<u32, NoMemory>
-    ensures { IfOk result (λ address. address ≡ place) }
-{
-    match u32::try_from(place) {
-        Ok(address) => Ok(address),
-        Err(_) => Err(NoMemory),
-    }
-}
-
 /// Adds the words of an item of a line that stands at a place.
 fn add_words(
     lines: &mut Vec<Line>,
@@ -66,16 +56,17 @@ fn add_words(
     line: u32,
     item: Item,
 ) -> Result<(), NoMemory>
+    requires { place ≤ 67_108_864 }
     ensures { OnOk result (lines.new.items ≡ lines.old.items ++ words_at place long line item) }
 {
     match item {
         Item::Instruction { .. } => {
-            let addr = address(place)?;
+            let addr = place as u32;
             lines.push(Line { addr, line })?;
             if !long {
                 return Ok(());
             }
-            let addr = address(place.saturating_add(4))?;
+            let addr = addr + 4;
             lines.push(Line { addr, line })?;
             Ok(())
         }
@@ -93,6 +84,7 @@ pub fn lines_of(
     requires room { length places.now ≡ length all.now + 1 }
     requires same { length grown.now ≡ length all.now }
     requires laid { ArePlaces (pieces (items_of all.now)) (member grown.now) (length all.now) places.now }
+    requires near { AreNear places.now }
     ensures { IfOk result (λ lines. lines ≡ all_words all.now (member grown.now)) }
 {
     let mut lines = Vec::new(alloc);

@@ -8,4 +8,5 @@ returns c = record {
       let last : length c.args.places.now - 1 ≡ length all = omega (arith, room) in
       ap (λ j. get_or c.args.places.now j 0) c.min.ensures ∙ place_read all F c.args.places.now c.args.k (length c.args.places.now - 1) last laid;
   below = λ n room below. below c.min.result (omega (arith, room, c.min.ensures));
+  near = λ limit all. all c.min.result (omega (arith, c.requires, c.min.ensures));
 }
