@@ -1,0 +1,5 @@
+pub mod Pasts
+pub mod Opening
+pub mod Beginning
+pub mod Cycling
+pub mod Determined

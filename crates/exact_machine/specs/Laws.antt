@@ -1,0 +1,70 @@
+-- What is proved of the exact machine.
+use Rattle.std.specs.Prelude.{◌≡◌, ℕ, List, length}
+use Rattle.std.specs.List.{AllByRecursion}
+use Rattle.isa_step.specs.Deeds.{View}
+use Rattle.board_file.specs.declared.board.BoardFile.{BoardFile}
+use Rattle.board_machine.specs.declared.events.Event.{Event}
+use Rattle.board_machine.specs.declared.events.RunEnd.{RunEnd}
+use Rattle.board_machine.specs.Cycles.{RunsTo}
+use Rattle.board_machine.specs.World.{Inputs, IsThere, Reached, Steps, World}
+use Rattle.journal_laws.specs.Laws.{RanCycles}
+use Rattle.exact_machine.specs.Machine.{ExactWorld, exact_steps}
+use Rattle.exact_machine.specs.Opening.{AreSame, IsOpen, StandsFor}
+use Rattle.exact_machine.specs.Runs.{ExactRun, exact_cycles, exact_start}
+
+-- each step is one of the open machine
+
+-- the events name cores that are there
+abbrev pub AreThere : ExactWorld → List Event → Type 0
+AreThere x events = AllByRecursion (IsThere (length x.cores)) events
+
+-- where these steps of the open machine lead
+pub record OpenSteps (w : World) (events : List Event) (x : ExactWorld) : Type 0 where
+  pub end : World
+  pub steps : Steps w events end
+  pub is_open : IsOpen x end
+
+-- a run of the open machine from the beginning of a board, by steps or by so many cycles
+pub record OpenReached (b : BoardFile) (views : List View) (inputs : Inputs) (x : ExactWorld) : Type 0 where
+  pub end : World
+  pub reached : Reached b views inputs end
+  pub is_open : IsOpen x end
+
+pub record OpenCycles (b : BoardFile) (views : List View) (inputs : Inputs) (count : ℕ) (x : ExactWorld) : Type 0 where
+  pub end : World
+  pub ran : RanCycles b views inputs count end
+  pub is_open : IsOpen x end
+
+-- cycles of the open machine up to the first end
+pub record OpenRun (limit : ℕ) (w : World) (x : ExactWorld) (end : RunEnd) : Type 0 where
+  pub last : World
+  pub ran : RunsTo limit w last end
+  pub is_open : IsOpen x last
+
+pub record ExactRunsAreOpen : Type 0 where
+  pub steps : (x : ExactWorld) (w : World) (events : List Event) → IsOpen x w → AreThere x events → OpenSteps w events (exact_steps x events)
+  pub reached : (b : BoardFile) (views : List View) (inputs : Inputs) (room : ℕ) (events : List Event) → length views ≡ length b.cores
+      → AreThere (exact_start b views inputs room) events → OpenReached b views inputs (exact_steps (exact_start b views inputs room) events)
+  pub cycles : (b : BoardFile) (views : List View) (inputs : Inputs) (room count : ℕ) → length views ≡ length b.cores
+      → OpenCycles b views inputs count (exact_cycles (exact_start b views inputs room) count)
+  pub runs : (limit : ℕ) (x new : ExactWorld) (w : World) (end : RunEnd) → IsOpen x w → length x.schedule.clocks ≡ length x.cores
+      → ExactRun limit x new end → OpenRun limit w new end
+
+-- a run is determined
+
+-- the board ran from its beginning to the first end, as the exact machine does, and stands here
+pub record RanExactly (b : BoardFile) (views : List View) (inputs : Inputs) (room limit : ℕ) (w : World) (end : RunEnd) : Type 0 where
+  pub last : ExactWorld
+  pub ran : ExactRun limit (exact_start b views inputs room) last end
+  pub stands : StandsFor last w
+
+pub record RunsAreDetermined : Type 0 where
+  -- worlds that stand for one exact world differ by slacks alone, and the slacks of an open run are enough
+  pub same : (x : ExactWorld) (w v : World) → StandsFor x w → StandsFor x v → AreSame w v
+  pub stands : (x : ExactWorld) (w : World) → IsOpen x w → StandsFor x w
+  -- there is one first end
+  pub one_end : (limit : ℕ) (old new other : ExactWorld) (end last : RunEnd) → ExactRun limit old new end → ExactRun limit old other last
+      → (new ≡ other) × (end ≡ last)
+  -- given board, views, inputs, room and limit there is one run but for its slacks
+  pub one_run : (b : BoardFile) (views : List View) (inputs : Inputs) (room limit : ℕ) (w v : World) (end last : RunEnd)
+      → RanExactly b views inputs room limit w end → RanExactly b views inputs room limit v last → AreSame w v × (end ≡ last)

@@ -1,0 +1,18 @@
+//! The exact machine: the board machine with a past for each core, which says when the core acts.
+//!
+//! There is no code here: each function is a law, whose statement is its clause.
+#![tactic(auto)]
+
+ghost use Rattle.exact_machine.specs.Laws.{ExactRunsAreOpen, RunsAreDetermined};
+
+/// Each step of the exact machine is one of the open machine, and so are its runs, but for the slacks.
+#[tactic(auto, using(crate::proofs::Cycling::runs_open))]
+pub fn exact_runs_are_open()
+    ensures { ExactRunsAreOpen }
+{}
+
+/// Given the board, the first views, the inputs, the room of the journal and the limit, there is one run but for its slacks.
+#[tactic(auto, using(crate::proofs::Determined::determined))]
+pub fn runs_are_determined()
+    ensures { RunsAreDetermined }
+{}
