@@ -3,3 +3,4 @@ pub mod Opening
 pub mod Beginning
 pub mod Cycling
 pub mod Determined
+pub mod Profiles

@@ -1,15 +1,20 @@
 -- What is proved of the exact machine.
-use Rattle.std.specs.Prelude.{◌≡◌, ℕ, List, length}
+use Rattle.std.specs.Prelude.{◌≡◌, ℕ, ◌<◌, true, List, length, Some, slice_get}
 use Rattle.std.specs.List.{AllByRecursion}
 use Rattle.isa_step.specs.Deeds.{View}
+use Rattle.isa_step.specs.Due.{here_of}
+use Rattle.isa_step.specs.Shown.{Shown}
+use Rattle.timing_law.specs.Passing.{instr_of}
+use Rattle.timing_law.specs.Table.{extra_for}
 use Rattle.board_file.specs.declared.board.BoardFile.{BoardFile}
 use Rattle.board_machine.specs.declared.events.Event.{Event}
 use Rattle.board_machine.specs.declared.events.RunEnd.{RunEnd}
 use Rattle.board_machine.specs.Cycles.{RunsTo}
 use Rattle.board_machine.specs.World.{Inputs, IsThere, Reached, Steps, World}
 use Rattle.journal_laws.specs.Laws.{RanCycles}
-use Rattle.exact_machine.specs.Machine.{ExactWorld, exact_steps}
+use Rattle.exact_machine.specs.Machine.{ExactCore, ExactWorld, exact_steps, is_held_at}
 use Rattle.exact_machine.specs.Opening.{AreSame, IsOpen, StandsFor}
+use Rattle.exact_machine.specs.Profile.{Dividing, nothing, profile_steps, reason, total}
 use Rattle.exact_machine.specs.Runs.{ExactRun, exact_cycles, exact_start}
 
 -- each step is one of the open machine
@@ -68,3 +73,14 @@ pub record RunsAreDetermined : Type 0 where
   -- given board, views, inputs, room and limit there is one run but for its slacks
   pub one_run : (b : BoardFile) (views : List View) (inputs : Inputs) (room limit : ℕ) (w v : World) (end last : RunEnd)
       → RanExactly b views inputs room limit w end → RanExactly b views inputs room limit v last → AreSame w v × (end ≡ last)
+
+-- the profile
+
+pub record ProfilesAddUp : Type 0 where
+  -- in an exact run the counts of a core add up to its ticks, and those of acts are its acts
+  pub ticks : (b : BoardFile) (views : List View) (inputs : Inputs) (room : ℕ) (events : List Event) (core : ℕ) (s : ExactCore)
+      → slice_get (exact_steps (exact_start b views inputs room) events).cores core ≡ Some s
+      → (total (profile_steps (exact_start b views inputs room) core events nothing) ≡ s.ticks)
+        × ((profile_steps (exact_start b views inputs room) core events nothing).acted ≡ s.acts)
+  -- an act that is held back for no other reason is a divide
+  pub divides : (s : ExactCore) (shown : Shown) → is_held_at s shown ≡ true → reason s ≡ Dividing → 0 < extra_for s.past.pipe (instr_of (here_of s.view))

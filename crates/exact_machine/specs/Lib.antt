@@ -1,4 +1,5 @@
 pub mod Machine
 pub mod Runs
 pub mod Opening
+pub mod Profile
 pub mod Laws
