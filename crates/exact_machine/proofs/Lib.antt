@@ -4,3 +4,4 @@ pub mod Beginning
 pub mod Cycling
 pub mod Determined
 pub mod Profiles
+pub mod Names

@@ -1,21 +1,24 @@
 -- What is proved of the exact machine.
-use Rattle.std.specs.Prelude.{◌≡◌, ℕ, ◌<◌, true, List, length, Some, slice_get}
+use Rattle.std.specs.Prelude.{◌≡◌, ℕ, ◌<◌, true, List, is_some, length, Some, slice_get}
 use Rattle.std.specs.List.{AllByRecursion}
 use Rattle.isa_step.specs.Deeds.{View}
 use Rattle.isa_step.specs.Due.{here_of}
 use Rattle.isa_step.specs.Shown.{Shown}
+use Rattle.timing_law.specs.DueTick.{due_tick}
 use Rattle.timing_law.specs.Passing.{instr_of}
 use Rattle.timing_law.specs.Table.{extra_for}
 use Rattle.board_file.specs.declared.board.BoardFile.{BoardFile}
+use Rattle.board_file.specs.declared.board.CoreRow.{CoreRow}
 use Rattle.board_machine.specs.declared.events.Event.{Event}
 use Rattle.board_machine.specs.declared.events.RunEnd.{RunEnd}
 use Rattle.board_machine.specs.Cycles.{RunsTo}
 use Rattle.board_machine.specs.World.{Inputs, IsThere, Reached, Steps, World}
 use Rattle.journal_laws.specs.Laws.{RanCycles}
 use Rattle.exact_machine.specs.Machine.{ExactCore, ExactWorld, exact_steps, is_held_at}
-use Rattle.exact_machine.specs.Opening.{AreSame, IsOpen, StandsFor}
+use Rattle.exact_machine.specs.Opening.{AreSame, IsOpen, StandsFor, due_of}
 use Rattle.exact_machine.specs.Profile.{Dividing, nothing, profile_steps, reason, total}
-use Rattle.exact_machine.specs.Runs.{ExactRun, exact_cycles, exact_start}
+use Rattle.exact_machine.specs.Runs.{ExactRun, exact_cycles, exact_start, pipe_of}
+use Rattle.exact_machine.specs.Times.{acts_in}
 
 -- each step is one of the open machine
 
@@ -84,3 +87,11 @@ pub record ProfilesAddUp : Type 0 where
         × ((profile_steps (exact_start b views inputs room) core events nothing).acted ≡ s.acts)
   -- an act that is held back for no other reason is a divide
   pub divides : (s : ExactCore) (shown : Shown) → is_held_at s shown ≡ true → reason s ≡ Dividing → 0 < extra_for s.past.pipe (instr_of (here_of s.view))
+
+-- the time of each act
+
+-- in an exact run the tick in which a core's next act is due is `due_tick` of its acts before
+pub record ActsAreTimed : Type 0 where
+  pub timed : (b : BoardFile) (views : List View) (inputs : Inputs) (room : ℕ) (events : List Event) (core : ℕ) (row : CoreRow) (s : ExactCore)
+      → slice_get b.cores core ≡ Some row → slice_get (exact_steps (exact_start b views inputs room) events).cores core ≡ Some s
+      → due_of s ≡ due_tick (pipe_of row.pipeline) (acts_in (exact_start b views inputs room) core events) (instr_of (here_of s.view)) (is_some s.view.arch.slot)

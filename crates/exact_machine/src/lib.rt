@@ -3,7 +3,7 @@
 //! There is no code here: each function is a law, whose statement is its clause.
 #![tactic(auto)]
 
-ghost use Rattle.exact_machine.specs.Laws.{ExactRunsAreOpen, RunsAreDetermined};
+ghost use Rattle.exact_machine.specs.Laws.{ExactRunsAreOpen, ProfilesAddUp, RunsAreDetermined};
 
 /// Each step of the exact machine is one of the open machine, and so are its runs, but for the slacks.
 #[tactic(auto, using(crate::proofs::Cycling::runs_open))]
@@ -15,4 +15,10 @@ pub fn exact_runs_are_open()
 #[tactic(auto, using(crate::proofs::Determined::determined))]
 pub fn runs_are_determined()
     ensures { RunsAreDetermined }
+{}
+
+/// The counts of a profile add up to the ticks of its core, and what is held back for no other reason is a divide.
+#[tactic(auto, using(crate::proofs::Profiles::profiles_add_up))]
+pub fn profiles_add_up()
+    ensures { ProfilesAddUp }
 {}
