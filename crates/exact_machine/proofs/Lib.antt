@@ -5,3 +5,4 @@ pub mod Cycling
 pub mod Determined
 pub mod Profiles
 pub mod Names
+pub mod Times

@@ -85,7 +85,7 @@ own_tick x core s p q =
       acts = act_by d held (is_quiet (bare s.view.arch) (here_of s.view) (shown x.fabric core)) (reason s) s p (held_no_act _ _ _ _ p);
     }
 
-other_tick : (x : ExactWorld) (other core : ℕ) (o : Option ExactCore) → (core ≡ other → ⊥) → slice_get (ticked other o x).cores core ≡ slice_get x.cores core
+pub other_tick : (x : ExactWorld) (other core : ℕ) (o : Option ExactCore) → (core ≡ other → ⊥) → slice_get (ticked other o x).cores core ≡ slice_get x.cores core
 other_tick x other core None ne = refl
 other_tick x other core (Some s) ne = slice_get_set_other x.cores core other _ ne
 

@@ -3,7 +3,9 @@
 //! There is no code here: each function is a law, whose statement is its clause.
 #![tactic(auto)]
 
-ghost use Rattle.exact_machine.specs.Laws.{ExactRunsAreOpen, ProfilesAddUp, RunsAreDetermined};
+ghost use Rattle.exact_machine.specs.Laws.{ActsAreTimed, ExactRunsAreOpen, ProfilesAddUp, RunsAreDetermined};
+
+use timing_law::past_is_exact;
 
 /// Each step of the exact machine is one of the open machine, and so are its runs, but for the slacks.
 #[tactic(auto, using(crate::proofs::Cycling::runs_open))]
@@ -22,3 +24,11 @@ pub fn runs_are_determined()
 pub fn profiles_add_up()
     ensures { ProfilesAddUp }
 {}
+
+/// The tick in which the next act of a core is due is that of `due_tick`, over the list of all its acts before.
+#[tactic(auto, using(crate::proofs::Times::acts_are_timed))]
+pub fn acts_are_timed()
+    ensures { ActsAreTimed }
+{
+    past_is_exact();
+}
