@@ -6,3 +6,4 @@ pub mod Determined
 pub mod Profiles
 pub mod Names
 pub mod Times
+pub mod Journals

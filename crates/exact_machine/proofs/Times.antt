@@ -1,6 +1,6 @@
 -- The past of a core is that of the list of its acts.
-use Rattle.std.proofs.Common.{◌≡◌, ℕ, zero, suc, ◌+◌, ◌≤◌, ◌==◌, Bool, true, false, if◌then◌else◌, List, [], ◌∷◌, ◌++◌, map, Option, Some, None, IfSome, refl, ap, sym, ◌∙◌, subst, arith, slice_get}
-use Rattle.std.specs.Prelude.{is_some}
+use Rattle.std.proofs.Common.{◌≡◌, ℕ, zero, suc, ◌+◌, ◌≤◌, ◌==◌, ◌&&◌, nat_lt, Bool, true, false, if◌then◌else◌, List, [], ◌∷◌, ◌++◌, map, Option, Some, None, IfSome, refl, ap, sym, ◌∙◌, subst, arith, slice_get}
+use Rattle.std.specs.Prelude.{is_none, is_some}
 use Rattle.std.proofs.lemmas.List.{append-nil, append_assoc}
 use Rattle.std.proofs.lemmas.Option.{same_Some}
 use Rattle.mb_decode.specs.declared.instruction.Instr.{Instr}
@@ -8,7 +8,8 @@ use Rattle.mb_decode.specs.Meaning.{NamesRegisters}
 use Rattle.isa_step.specs.declared.acts.Act.{Act}
 use Rattle.isa_step.specs.declared.acts.Act.TheVariants as acts
 use Rattle.isa_step.specs.Deeds.{Deed, Due, Does, Waits, Sleeps, Ends, Stops, View}
-use Rattle.isa_step.specs.Due.{due, here_of}
+use Rattle.core_regs.specs.State.{bare}
+use Rattle.isa_step.specs.Due.{due, here_of, take_due}
 use Rattle.board_file.specs.declared.board.BoardFile.{BoardFile}
 use Rattle.board_file.specs.declared.board.CoreRow.{CoreRow}
 use Rattle.timing_law.specs.declared.pipe.Jump.{Jump}
@@ -155,4 +156,8 @@ timed exact b views inputs room events core row s r q =
     ap (λ p. due_at p i in_slot) past ∙ exact.exact (pipe_of row.pipeline) acts i in_slot rising (here_names s.view)
 
 pub acts_are_timed : IsExact → ActsAreTimed
-acts_are_timed exact = record { timed = timed exact }
+acts_are_timed exact = record {
+  timed = timed exact;
+  held = λ b views inputs room events core row s shown r q.
+      ap (λ n. is_none (take_due (here_of s.view) (bare s.view.arch) shown) && nat_lt s.ticks n) (timed exact b views inputs room events core row s r q);
+}

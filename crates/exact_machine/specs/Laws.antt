@@ -1,8 +1,9 @@
 -- What is proved of the exact machine.
-use Rattle.std.specs.Prelude.{◌≡◌, ℕ, ◌<◌, true, List, is_some, length, Some, slice_get}
+use Rattle.std.specs.Prelude.{◌≡◌, ℕ, ◌<◌, ◌&&◌, nat_lt, true, List, is_none, is_some, length, Some, slice_get}
 use Rattle.std.specs.List.{AllByRecursion}
 use Rattle.isa_step.specs.Deeds.{View}
-use Rattle.isa_step.specs.Due.{here_of}
+use Rattle.core_regs.specs.State.{bare}
+use Rattle.isa_step.specs.Due.{here_of, take_due}
 use Rattle.isa_step.specs.Shown.{Shown}
 use Rattle.timing_law.specs.DueTick.{due_tick}
 use Rattle.timing_law.specs.Passing.{instr_of}
@@ -13,7 +14,10 @@ use Rattle.board_machine.specs.declared.events.Event.{Event}
 use Rattle.board_machine.specs.declared.events.RunEnd.{RunEnd}
 use Rattle.board_machine.specs.Cycles.{RunsTo}
 use Rattle.board_machine.specs.World.{Inputs, IsThere, Reached, Steps, World}
-use Rattle.journal_laws.specs.Laws.{RanCycles}
+use Rattle.journal_laws.specs.Laws.{RanCycles, order_of}
+use Rattle.journal_laws.specs.LinkLaw.{LinkLaw}
+use Rattle.journal_laws.specs.Progress.{ProgressBound}
+use Rattle.journal_laws.specs.TakeLaw.{TakeLaw}
 use Rattle.exact_machine.specs.Machine.{ExactCore, ExactWorld, exact_steps, is_held_at}
 use Rattle.exact_machine.specs.Opening.{AreSame, IsOpen, StandsFor, due_of}
 use Rattle.exact_machine.specs.Profile.{Dividing, nothing, profile_steps, reason, total}
@@ -77,6 +81,33 @@ pub record RunsAreDetermined : Type 0 where
   pub one_run : (b : BoardFile) (views : List View) (inputs : Inputs) (room limit : ℕ) (w v : World) (end last : RunEnd)
       → RanExactly b views inputs room limit w end → RanExactly b views inputs room limit v last → AreSame w v × (end ≡ last)
 
+-- the journal
+
+-- what is proved of the open machine holds of exact runs: their journals have the link law and the take law, and those of
+-- whole cycles the progress bound
+pub record ExactJournalsHaveLaws : Type 0 where
+  pub links : (b : BoardFile) (views : List View) (inputs : Inputs) (room : ℕ) (events : List Event) → length views ≡ length b.cores
+      → AreThere (exact_start b views inputs room) events → LinkLaw b.links (exact_steps (exact_start b views inputs room) events).fabric.journal
+  pub takes : (b : BoardFile) (views : List View) (inputs : Inputs) (room : ℕ) (events : List Event) → length views ≡ length b.cores
+      → AreThere (exact_start b views inputs room) events → (core : ℕ) (s : ExactCore) (first : View)
+      → slice_get (exact_steps (exact_start b views inputs room) events).cores core ≡ Some s → slice_get views core ≡ Some first
+      → TakeLaw b.events first core s.acts (exact_steps (exact_start b views inputs room) events).fabric.journal
+  pub progress : (b : BoardFile) (views : List View) (inputs : Inputs) (room count : ℕ) → length views ≡ length b.cores
+      → ProgressBound (order_of b) b.links views (exact_cycles (exact_start b views inputs room) count).fabric.journal
+
+-- the time of each act
+
+pub record ActsAreTimed : Type 0 where
+  -- in an exact run the tick in which a core's next act is due is `due_tick` of its acts before
+  pub timed : (b : BoardFile) (views : List View) (inputs : Inputs) (room : ℕ) (events : List Event) (core : ℕ) (row : CoreRow) (s : ExactCore)
+      → slice_get b.cores core ≡ Some row → slice_get (exact_steps (exact_start b views inputs room) events).cores core ≡ Some s
+      → due_of s ≡ due_tick (pipe_of row.pipeline) (acts_in (exact_start b views inputs room) core events) (instr_of (here_of s.view)) (is_some s.view.arch.slot)
+  -- and a tick is held back exactly where no take is due and it comes before that one
+  pub held : (b : BoardFile) (views : List View) (inputs : Inputs) (room : ℕ) (events : List Event) (core : ℕ) (row : CoreRow) (s : ExactCore) (shown : Shown)
+      → slice_get b.cores core ≡ Some row → slice_get (exact_steps (exact_start b views inputs room) events).cores core ≡ Some s
+      → is_held_at s shown ≡ is_none (take_due (here_of s.view) (bare s.view.arch) shown)
+        && nat_lt s.ticks (due_tick (pipe_of row.pipeline) (acts_in (exact_start b views inputs room) core events) (instr_of (here_of s.view)) (is_some s.view.arch.slot))
+
 -- the profile
 
 pub record ProfilesAddUp : Type 0 where
@@ -87,11 +118,3 @@ pub record ProfilesAddUp : Type 0 where
         × ((profile_steps (exact_start b views inputs room) core events nothing).acted ≡ s.acts)
   -- an act that is held back for no other reason is a divide
   pub divides : (s : ExactCore) (shown : Shown) → is_held_at s shown ≡ true → reason s ≡ Dividing → 0 < extra_for s.past.pipe (instr_of (here_of s.view))
-
--- the time of each act
-
--- in an exact run the tick in which a core's next act is due is `due_tick` of its acts before
-pub record ActsAreTimed : Type 0 where
-  pub timed : (b : BoardFile) (views : List View) (inputs : Inputs) (room : ℕ) (events : List Event) (core : ℕ) (row : CoreRow) (s : ExactCore)
-      → slice_get b.cores core ≡ Some row → slice_get (exact_steps (exact_start b views inputs room) events).cores core ≡ Some s
-      → due_of s ≡ due_tick (pipe_of row.pipeline) (acts_in (exact_start b views inputs room) core events) (instr_of (here_of s.view)) (is_some s.view.arch.slot)

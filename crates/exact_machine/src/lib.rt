@@ -3,7 +3,7 @@
 //! There is no code here: each function is a law, whose statement is its clause.
 #![tactic(auto)]
 
-ghost use Rattle.exact_machine.specs.Laws.{ActsAreTimed, ExactRunsAreOpen, ProfilesAddUp, RunsAreDetermined};
+ghost use Rattle.exact_machine.specs.Laws.{ActsAreTimed, ExactJournalsHaveLaws, ExactRunsAreOpen, ProfilesAddUp, RunsAreDetermined};
 
 use timing_law::past_is_exact;
 
@@ -17,6 +17,12 @@ pub fn exact_runs_are_open()
 #[tactic(auto, using(crate::proofs::Determined::determined))]
 pub fn runs_are_determined()
     ensures { RunsAreDetermined }
+{}
+
+/// The journal of each exact run has the laws of journals.
+#[tactic(auto, using(crate::proofs::Journals::journals_have_laws))]
+pub fn exact_journals_have_laws()
+    ensures { ExactJournalsHaveLaws }
 {}
 
 /// The counts of a profile add up to the ticks of its core, and what is held back for no other reason is a divide.
