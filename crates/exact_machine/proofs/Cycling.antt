@@ -1,5 +1,5 @@
 -- Cycles of the exact machine, and runs up to the first end, are those of the open machine.
-use Rattle.std.proofs.Common.{◌≡◌, ℕ, zero, suc, ◌+◌, ◌<◌, ◌≤◌, Bool, true, false, List, [], ◌∷◌, ◌++◌, length, map, Option, Some, None, refl, ap, sym, ◌∙◌, subst, arith, slice_get, add-zero, cond, if◌then◌else◌, ◌==◌, nat_lt}
+use Rattle.std.proofs.Common.{◌≡◌, ℕ, zero, suc, ◌+◌, ◌<◌, ◌≤◌, Bool, true, false, List, [], ◌∷◌, length, map, Option, Some, None, refl, ap, sym, ◌∙◌, subst, arith, slice_get, add-zero, cond, if◌then◌else◌, ◌==◌, nat_lt}
 use Rattle.std.specs.List.{AllByRecursion}
 use Rattle.std.specs.Option.{option_and_then}
 use Rattle.std.proofs.lemmas.List.{length-map}
@@ -21,7 +21,7 @@ use Rattle.machine_laws.proofs.Going.{apart}
 use Rattle.exact_machine.specs.Machine.{ExactCore, ExactWorld, exact_steps, opened, with_slack}
 use Rattle.exact_machine.specs.Opening.{AreOpen, IsOpen}
 use Rattle.exact_machine.specs.Runs.{ExactRun, exact_cycle, exact_cycles, exact_end, exact_start}
-use Rattle.exact_machine.specs.Laws.{AreThere, ExactRunsAreOpen, OpenCycles, OpenReached, OpenRun, OpenSteps}
+use Rattle.exact_machine.specs.Laws.{AreThere, ExactRunsAreOpen, OpenCycles, OpenReached, OpenRun}
 use Rattle.exact_machine.proofs.Beginning.{fresh_count, start_open}
 use Rattle.exact_machine.proofs.Opening.{is_with, same_length, seen_same, steps_open, with_cores}
 
@@ -42,8 +42,8 @@ end_same_at limit x ss h =
     let w = with_cores x ss in
     let count : length ss ≡ length (map (with_slack 0) x.cores) = same_length x.cores ss h ∙ sym (length-map x.cores (with_slack 0)) in
     let rest : rest_of w ≡ rest_of (opened x) =
-        ap (λ n. cond (is_outside_still x.fabric) (rest_to w n) None) count
-        ∙ ap (λ r. cond (is_outside_still x.fabric) r None) (rest_same x.cores ss x.schedule x.fabric (length (map (with_slack 0) x.cores)) h) in
+    ap (λ n. cond (is_outside_still x.fabric) (rest_to w n) None) count
+    ∙ ap (λ r. cond (is_outside_still x.fabric) r None) (rest_same x.cores ss x.schedule x.fabric (length (map (with_slack 0) x.cores)) h) in
     let needs : need w ≡ need (opened x) = omega (arith, count) in
     ap (end_of limit w) rest ∙ end_needs limit x ss (rest_of (opened x)) needs
 
@@ -60,7 +60,7 @@ turns_there : (s : Schedule) (cycle k : ℕ) → k ≤ length s.clocks → AllBy
 turns_there s cycle zero l = tt
 turns_there s cycle (suc k) l =
     all_append (IsThere (length s.clocks)) (turns s cycle k) (turn_of s cycle k) (turns_there s cycle k (omega (arith, l)))
-      (where_there (length s.clocks) (core_of_turn s cycle k) (divides (slice_get s.clocks (core_of_turn s cycle k)) cycle) (apart.there s cycle k (omega (arith, l))))
+    (where_there (length s.clocks) (core_of_turn s cycle k) (divides (slice_get s.clocks (core_of_turn s cycle k)) cycle) (apart.there s cycle k (omega (arith, l))))
 
 events_there : (s : Schedule) (cycle : ℕ) → AllByRecursion (IsThere (length s.clocks)) (events_of s cycle)
 events_there s cycle = (tt, (tt, all_append (IsThere (length s.clocks)) (turns s cycle (length s.clocks)) (Next ∷ []) (turns_there s cycle (length s.clocks) (omega arith)) (tt, tt)))
@@ -84,8 +84,8 @@ cycle_open x w h c =
     let there : AreThere x (events_of x.schedule x.fabric.cycle) = subst (λ n. AllByRecursion (IsThere n) (events_of x.schedule x.fabric.cycle)) count (events_there x.schedule x.fabric.cycle) in
     let s = steps_open x w (events_of x.schedule x.fabric.cycle) h there in
     let steps : Steps w (events_of w.schedule w.fabric.cycle) s.end =
-        subst (λ (t : Schedule). Steps w (events_of t w.fabric.cycle) s.end) (sym h.schedule)
-          (subst (λ (f : Fabric). Steps w (events_of x.schedule f.cycle) s.end) (sym h.fabric) s.steps) in
+    subst (λ (t : Schedule). Steps w (events_of t w.fabric.cycle) s.end) (sym h.schedule)
+    (subst (λ (f : Fabric). Steps w (events_of x.schedule f.cycle) s.end) (sym h.fabric) s.steps) in
     let left = cycled w s.end steps in
     record {
       next = s.end;
@@ -111,8 +111,8 @@ cycles_open x w (suc n) h c =
     let f = cycles_open x w n h c in
     let o = cycle_open (exact_cycles x n) f.far f.is_open f.clocks in
     let last : Steps f.far (events_of w.schedule (w.fabric.cycle + n)) o.next =
-        subst (λ (s : Schedule). Steps f.far (events_of s (w.fabric.cycle + n)) o.next) f.schedule
-          (subst (λ k. Steps f.far (events_of f.far.schedule k) o.next) f.cycle o.steps) in
+    subst (λ (s : Schedule). Steps f.far (events_of s (w.fabric.cycle + n)) o.next) f.schedule
+    (subst (λ k. Steps f.far (events_of f.far.schedule k) o.next) f.cycle o.steps) in
     record {
       far = o.next;
       ran = steps_append w f.far o.next (cycles_of w.schedule w.fabric.cycle n) (events_of w.schedule (w.fabric.cycle + n)) f.ran last;
@@ -168,7 +168,7 @@ ran_open b views inputs room count l =
     let x = exact_start b views inputs room in
     let s = start_open b views inputs room l in
     let clocks : length s.first.schedule.clocks ≡ length s.first.cores =
-        ap (λ (t : Schedule). length t.clocks) s.is_open.schedule ∙ length-map b.cores _ ∙ sym (fresh_count b.cores views l) ∙ sym (same_length x.cores s.first.cores s.is_open.cores) in
+    ap (λ (t : Schedule). length t.clocks) s.is_open.schedule ∙ length-map b.cores _ ∙ sym (fresh_count b.cores views l) ∙ sym (same_length x.cores s.first.cores s.is_open.cores) in
     let f = cycles_open x s.first count s.is_open clocks in
     record { end = f.far; ran = record { first = s.first; began = s.began; ran = f.ran }; is_open = f.is_open }
 

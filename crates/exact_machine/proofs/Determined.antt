@@ -1,11 +1,11 @@
 -- One beginning, one limit: one run.
-use Rattle.std.proofs.Common.{◌≡◌, ℕ, zero, suc, ◌<◌, List, [], ◌∷◌, map, Some, None, refl, ap, sym, ◌∙◌, subst, ◌⊎◌, inl, inr, arith, Option}
+use Rattle.std.proofs.Common.{◌≡◌, ℕ, zero, suc, ◌<◌, List, [], ◌∷◌, map, Some, None, refl, ap, sym, ◌∙◌, subst, ◌⊎◌, inl, inr, arith}
 use Rattle.std.proofs.lemmas.Option.{same_Some}
 use Rattle.isa_step.specs.Deeds.{View}
 use Rattle.board_file.specs.declared.board.BoardFile.{BoardFile}
 use Rattle.board_machine.specs.declared.events.RunEnd.{RunEnd}
 use Rattle.board_machine.specs.World.{CoreAt, Inputs, World}
-use Rattle.exact_machine.specs.Machine.{ExactCore, ExactWorld, opened, with_slack}
+use Rattle.exact_machine.specs.Machine.{ExactCore, ExactWorld, with_slack}
 use Rattle.exact_machine.specs.Opening.{AreOpen, AreSame, IsOpen, StandsFor, without_slack}
 use Rattle.exact_machine.specs.Runs.{ExactRun, exact_cycles, exact_end, exact_start}
 use Rattle.exact_machine.specs.Laws.{RanExactly, RunsAreDetermined}

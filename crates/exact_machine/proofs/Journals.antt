@@ -1,8 +1,7 @@
 -- The laws of journals, from the open machine.
-use Rattle.std.proofs.Common.{◌≡◌, ℕ, List, length, Some, refl, ap, sym, ◌∙◌, subst, slice_get}
+use Rattle.std.proofs.Common.{◌≡◌, ℕ, List, Some, ap, subst, slice_get}
 use Rattle.isa_step.specs.Deeds.{View}
 use Rattle.board_file.specs.declared.board.BoardFile.{BoardFile}
-use Rattle.board_machine.specs.declared.events.Event.{Event}
 use Rattle.board_machine.specs.Fabric.{Fabric}
 use Rattle.board_machine.specs.World.{CoreAt, Inputs}
 use Rattle.journal_laws.specs.Laws.{order_of}
@@ -14,7 +13,7 @@ use Rattle.journal_laws.proofs.PaceCycles.{progress_bound_holds}
 use Rattle.journal_laws.proofs.TakeRuns.{take_law_holds}
 use Rattle.exact_machine.specs.Machine.{ExactCore, ExactWorld, exact_steps}
 use Rattle.exact_machine.specs.Runs.{exact_cycles, exact_start}
-use Rattle.exact_machine.specs.Laws.{AreThere, ExactJournalsHaveLaws, OpenCycles, OpenReached}
+use Rattle.exact_machine.specs.Laws.{ExactJournalsHaveLaws, OpenCycles, OpenReached}
 use Rattle.exact_machine.proofs.Cycling.{runs_open}
 use Rattle.exact_machine.proofs.Opening.{open_at}
 
@@ -27,7 +26,7 @@ take_law b views inputs x o core s first q v =
     let at = open_at x.cores o.end.cores core s o.is_open.cores q in
     let law = take_law_holds.law b views inputs o.end o.reached core at.0 first at.1 v in
     subst (λ n. TakeLaw b.events first core n x.fabric.journal) (ap (λ (s : CoreAt). s.acts) at.2.core)
-      (subst (λ (f : Fabric). TakeLaw b.events first core at.0.acts f.journal) o.is_open.fabric law)
+    (subst (λ (f : Fabric). TakeLaw b.events first core at.0.acts f.journal) o.is_open.fabric law)
 
 progress : (b : BoardFile) (views : List View) (inputs : Inputs) (count : ℕ) (x : ExactWorld) → OpenCycles b views inputs count x → ProgressBound (order_of b) b.links views x.fabric.journal
 progress b views inputs count x o = subst (λ (f : Fabric). ProgressBound (order_of b) b.links views f.journal) o.is_open.fabric (progress_bound_holds.law b views inputs count o.end o.ran)

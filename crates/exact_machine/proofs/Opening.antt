@@ -1,20 +1,19 @@
 -- Each step of the exact machine is one of the open machine.
-use Rattle.std.proofs.Common.{◌≡◌, ℕ, zero, suc, ◌+◌, ◌-◌, ◌<◌, ◌≤◌, nat_lt, ◌&&◌, Bool, true, false, List, [], ◌∷◌, length, map, Option, Some, None, refl, ap, sym, ◌∙◌, subst, inl, inr, arith, slice_get, slice_set, length-set}
-use Rattle.std.specs.Prelude.{is_none, is_some}
+use Rattle.std.proofs.Common.{◌≡◌, ℕ, zero, suc, ◌+◌, ◌-◌, ◌<◌, nat_lt, ◌&&◌, Bool, true, false, List, [], ◌∷◌, length, map, Option, Some, None, refl, ap, sym, ◌∙◌, subst, inl, inr, arith, slice_get, slice_set, length-set}
+use Rattle.std.specs.Prelude.{is_some}
 use Rattle.std.proofs.lemmas.List.{length-map}
 use Rattle.std.proofs.lemmas.Option.{same_Some}
 use Rattle.std.specs.List.{AllByRecursion}
 use Rattle.isa_step.specs.Deeds.{Deed, Due, Does, Waits, Sleeps, Ends, Stops}
 use Rattle.isa_step.specs.Due.{due, here_of}
-use Rattle.isa_step.specs.Shown.{Shown}
 use Rattle.timing_law.specs.Passing.{instr_of, jump_of, past_after}
 use Rattle.board_machine.specs.declared.events.Event.{Event}
 use Rattle.board_machine.specs.declared.events.Event.TheVariants.{Devices, Host, Tick, Next}
 use Rattle.board_machine.specs.DeviceMoves.{devices_moved, in_order, latched}
-use Rattle.board_machine.specs.Fabric.{Fabric, breaks_come, host_moves, next_cycle, shown}
-use Rattle.board_machine.specs.World.{CoreAt, IsThere, Step, Steps, TickMay, TickStep, World, acts_of, devices_done, line_latched}
+use Rattle.board_machine.specs.Fabric.{Fabric, breaks_come, shown}
+use Rattle.board_machine.specs.World.{CoreAt, IsThere, Step, TickMay, World, acts_of, devices_done, line_latched}
 use Rattle.board_machine.proofs.Lists.{and_right, slice_get_in}
-use Rattle.exact_machine.specs.Machine.{ExactCore, ExactWorld, acted, core_after, exact_step, exact_steps, fabric_after, is_held_at, passed, ticked, ticked_by, with_slack}
+use Rattle.exact_machine.specs.Machine.{ExactCore, ExactWorld, acted, core_after, exact_step, exact_steps, fabric_after, is_held_at, passed, ticked, with_slack}
 use Rattle.exact_machine.specs.Opening.{AreOpen, IsOpen, IsOpenCore, due_of}
 use Rattle.exact_machine.specs.Laws.{AreThere, OpenSteps}
 use Rattle.exact_machine.proofs.Pasts.{due_near, later, passed_near}

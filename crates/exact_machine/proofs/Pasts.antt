@@ -1,5 +1,5 @@
 -- An act leaves no number of the past far ahead, and the next act is due soon.
-use Rattle.std.proofs.Common.{ℕ, ◌≡◌, ◌<◌, ◌≤◌, ◌+◌, ◌==◌, nat_lt, Bool, true, false, List, Option, Some, None, refl, arith, length, slice_index, slice_set, if◌then◌else◌, replicate}
+use Rattle.std.proofs.Common.{ℕ, ◌≡◌, ◌≤◌, ◌+◌, ◌==◌, nat_lt, Bool, true, false, List, Option, Some, None, refl, arith, length, slice_index, slice_set, if◌then◌else◌, replicate}
 use Rattle.std.proofs.lemmas.List.{length-set, get_or-set_same, get_or-set_other, get_or_past, get_or-replicate, length-replicate}
 use Rattle.mb_decode.specs.declared.instruction.Instr.{Instr}
 use Rattle.mb_decode.specs.Registers.{reads_a, reads_b, reads_d}

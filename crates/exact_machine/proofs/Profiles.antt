@@ -1,5 +1,5 @@
 -- The counts of a profile add up to the ticks of the core.
-use Rattle.std.proofs.Common.{◌≡◌, ℕ, zero, suc, ◌+◌, ◌<◌, ◌==◌, ◌&&◌, nat_lt, Bool, true, false, if◌then◌else◌, List, [], ◌∷◌, Option, Some, None, refl, ap, sym, ◌∙◌, subst, arith, slice_get, slice_set, length, max}
+use Rattle.std.proofs.Common.{◌≡◌, ℕ, zero, suc, ◌+◌, ◌<◌, ◌==◌, nat_lt, Bool, true, false, if◌then◌else◌, List, [], ◌∷◌, Option, Some, None, refl, ap, sym, ◌∙◌, subst, arith, slice_get, length, max}
 use Rattle.std.specs.Prelude.{is_some}
 use Rattle.std.proofs.lemmas.Option.{same_Some, slice_get_within}
 use Rattle.isa_step.specs.Deeds.{View, Due, Does, Waits, Sleeps, Ends, Stops}
@@ -94,7 +94,7 @@ tick_adds : (x : ExactWorld) (other core : ℕ) (s : ExactCore) (p : Profile) (t
 tick_adds x other core s p true e q =
     let same : core ≡ other = grind (arith, e) in
     subst (λ k. Adds core s p (ticked k (slice_get x.cores k) x) (counted_at x core (slice_get x.cores core) p)) same
-      (subst (λ o. Adds core s p (ticked core o x) (counted_at x core o p)) (sym q) (own_tick x core s p q))
+    (subst (λ o. Adds core s p (ticked core o x) (counted_at x core o p)) (sym q) (own_tick x core s p q))
 tick_adds x other core s p false e q =
     stays core s p (ticked other (slice_get x.cores other) x) (other_tick x other core (slice_get x.cores other) (grind (arith, e)) ∙ q)
 

@@ -1,5 +1,5 @@
 -- The past of a core is that of the list of its acts.
-use Rattle.std.proofs.Common.{◌≡◌, ℕ, zero, suc, ◌+◌, ◌≤◌, ◌==◌, ◌&&◌, nat_lt, Bool, true, false, if◌then◌else◌, List, [], ◌∷◌, ◌++◌, map, Option, Some, None, IfSome, refl, ap, sym, ◌∙◌, subst, arith, slice_get}
+use Rattle.std.proofs.Common.{◌≡◌, ℕ, zero, suc, ◌+◌, ◌==◌, ◌&&◌, nat_lt, Bool, true, false, if◌then◌else◌, List, [], ◌∷◌, ◌++◌, map, Option, Some, None, IfSome, refl, ap, sym, ◌∙◌, subst, arith, slice_get}
 use Rattle.std.specs.Prelude.{is_none, is_some}
 use Rattle.std.proofs.lemmas.List.{append-nil, append_assoc}
 use Rattle.std.proofs.lemmas.Option.{same_Some}
@@ -7,7 +7,7 @@ use Rattle.mb_decode.specs.declared.instruction.Instr.{Instr}
 use Rattle.mb_decode.specs.Meaning.{NamesRegisters}
 use Rattle.isa_step.specs.declared.acts.Act.{Act}
 use Rattle.isa_step.specs.declared.acts.Act.TheVariants as acts
-use Rattle.isa_step.specs.Deeds.{Deed, Due, Does, Waits, Sleeps, Ends, Stops, View}
+use Rattle.isa_step.specs.Deeds.{Due, Does, Waits, Sleeps, Ends, Stops, View}
 use Rattle.core_regs.specs.State.{bare}
 use Rattle.isa_step.specs.Due.{due, here_of, take_due}
 use Rattle.board_file.specs.declared.board.BoardFile.{BoardFile}
@@ -22,7 +22,7 @@ use Rattle.board_machine.specs.declared.events.Event.{Event}
 use Rattle.board_machine.specs.declared.events.Event.TheVariants.{Devices, Host, Tick, Next}
 use Rattle.board_machine.specs.Fabric.{shown}
 use Rattle.board_machine.specs.World.{Inputs}
-use Rattle.board_machine.proofs.Lists.{slice_get_set_other, slice_get_set_same}
+use Rattle.board_machine.proofs.Lists.{slice_get_set_same}
 use Rattle.exact_machine.specs.Machine.{ExactCore, ExactWorld, core_after, exact_step, exact_steps, is_held_at, ticked}
 use Rattle.exact_machine.specs.Opening.{due_of}
 use Rattle.exact_machine.specs.Runs.{exact_start, fresh_core, fresh_cores, pipe_of}
@@ -104,7 +104,7 @@ tick_moved : (x : ExactWorld) (other core : ℕ) (s : ExactCore) (t : Bool) → 
 tick_moved x other core s true e q =
     let same : core ≡ other = grind (arith, e) in
     subst (λ k. Moves core s (ticked k (slice_get x.cores k) x) (act_at x core (slice_get x.cores core))) same
-      (subst (λ o. Moves core s (ticked core o x) (act_at x core o)) (sym q) (own_tick x core s q))
+    (subst (λ o. Moves core s (ticked core o x) (act_at x core o)) (sym q) (own_tick x core s q))
 tick_moved x other core s false e q =
     stays core s (ticked other (slice_get x.cores other) x) (other_tick x other core (slice_get x.cores other) (grind (arith, e)) ∙ q)
 

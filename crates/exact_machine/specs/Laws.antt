@@ -106,7 +106,7 @@ pub record ActsAreTimed : Type 0 where
   pub held : (b : BoardFile) (views : List View) (inputs : Inputs) (room : ℕ) (events : List Event) (core : ℕ) (row : CoreRow) (s : ExactCore) (shown : Shown)
       → slice_get b.cores core ≡ Some row → slice_get (exact_steps (exact_start b views inputs room) events).cores core ≡ Some s
       → is_held_at s shown ≡ is_none (take_due (here_of s.view) (bare s.view.arch) shown)
-        && nat_lt s.ticks (due_tick (pipe_of row.pipeline) (acts_in (exact_start b views inputs room) core events) (instr_of (here_of s.view)) (is_some s.view.arch.slot))
+      && nat_lt s.ticks (due_tick (pipe_of row.pipeline) (acts_in (exact_start b views inputs room) core events) (instr_of (here_of s.view)) (is_some s.view.arch.slot))
 
 -- the profile
 
@@ -115,6 +115,6 @@ pub record ProfilesAddUp : Type 0 where
   pub ticks : (b : BoardFile) (views : List View) (inputs : Inputs) (room : ℕ) (events : List Event) (core : ℕ) (s : ExactCore)
       → slice_get (exact_steps (exact_start b views inputs room) events).cores core ≡ Some s
       → (total (profile_steps (exact_start b views inputs room) core events nothing) ≡ s.ticks)
-        × ((profile_steps (exact_start b views inputs room) core events nothing).acted ≡ s.acts)
+      × ((profile_steps (exact_start b views inputs room) core events nothing).acted ≡ s.acts)
   -- an act that is held back for no other reason is a divide
   pub divides : (s : ExactCore) (shown : Shown) → is_held_at s shown ≡ true → reason s ≡ Dividing → 0 < extra_for s.past.pipe (instr_of (here_of s.view))

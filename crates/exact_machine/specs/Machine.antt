@@ -1,5 +1,5 @@
 -- The exact machine: the board machine with a past for each core, which says when the core acts. Nothing in it is free.
-use Rattle.std.specs.Prelude.{ℕ, ◌+◌, Bool, true, false, List, [], ◌∷◌, length, map, Option, Some, None, slice_get, slice_set}
+use Rattle.std.specs.Prelude.{ℕ, ◌+◌, Bool, false, List, [], ◌∷◌, length, map, Option, Some, None, slice_get, slice_set}
 use Rattle.isa_step.specs.Deeds.{View, Deed, Due, Does, Waits, after}
 use Rattle.isa_step.specs.Due.{due, here_of}
 use Rattle.isa_step.specs.Shown.{Shown}

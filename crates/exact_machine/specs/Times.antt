@@ -1,5 +1,5 @@
 -- The acts of a core in an exact run, each with its tick.
-use Rattle.std.specs.Prelude.{ℕ, ◌==◌, Bool, true, false, if◌then◌else◌, List, [], ◌∷◌, ◌++◌, map, Option, Some, None, slice_get}
+use Rattle.std.specs.Prelude.{ℕ, ◌==◌, Bool, false, if◌then◌else◌, List, [], ◌∷◌, ◌++◌, map, Option, Some, None, slice_get}
 use Rattle.mb_decode.specs.declared.instruction.Instr.{Instr}
 use Rattle.isa_step.specs.declared.acts.Act.{Act}
 use Rattle.isa_step.specs.declared.acts.Act.TheVariants as acts
