@@ -7,3 +7,4 @@ pub mod Profiles
 pub mod Names
 pub mod Times
 pub mod Journals
+pub mod Joins

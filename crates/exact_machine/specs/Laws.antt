@@ -1,5 +1,5 @@
 -- What is proved of the exact machine.
-use Rattle.std.specs.Prelude.{◌≡◌, ℕ, ◌<◌, ◌&&◌, nat_lt, true, List, is_none, is_some, length, Some, slice_get}
+use Rattle.std.specs.Prelude.{◌≡◌, ℕ, ◌+◌, ◌<◌, ◌&&◌, nat_lt, true, List, ◌++◌, is_none, is_some, length, None, Some, slice_get}
 use Rattle.std.specs.List.{AllByRecursion}
 use Rattle.isa_step.specs.Deeds.{View}
 use Rattle.core_regs.specs.State.{bare}
@@ -21,7 +21,7 @@ use Rattle.journal_laws.specs.TakeLaw.{TakeLaw}
 use Rattle.exact_machine.specs.Machine.{ExactCore, ExactWorld, exact_steps, is_held_at}
 use Rattle.exact_machine.specs.Opening.{AreSame, IsOpen, StandsFor, due_of}
 use Rattle.exact_machine.specs.Profile.{Dividing, nothing, profile_steps, reason, total}
-use Rattle.exact_machine.specs.Runs.{ExactRun, exact_cycles, exact_start, pipe_of}
+use Rattle.exact_machine.specs.Runs.{ExactRun, exact_cycles, exact_end, exact_events, exact_start, pipe_of}
 use Rattle.exact_machine.specs.Times.{acts_in}
 
 -- each step is one of the open machine
@@ -80,6 +80,17 @@ pub record RunsAreDetermined : Type 0 where
   -- given board, views, inputs, room and limit there is one run but for its slacks
   pub one_run : (b : BoardFile) (views : List View) (inputs : Inputs) (room limit : ℕ) (w v : World) (end last : RunEnd)
       → RanExactly b views inputs room limit w end → RanExactly b views inputs room limit v last → AreSame w v × (end ≡ last)
+
+-- runs join
+
+pub record ExactRunsJoin : Type 0 where
+  pub steps : (x : ExactWorld) (first more : List Event) → exact_steps x (first ++ more) ≡ exact_steps (exact_steps x first) more
+  pub cycles : (x : ExactWorld) (count more : ℕ) → exact_cycles x (count + more) ≡ exact_cycles (exact_cycles x count) more
+  -- cycles are steps
+  pub events : (x : ExactWorld) (count : ℕ) → exact_cycles x count ≡ exact_steps x (exact_events x count)
+  -- cycles, each begun where no end was reached, and a run after them are one run
+  pub runs : (limit : ℕ) (x new : ExactWorld) (end : RunEnd) (count : ℕ) → ((n : ℕ) → n < count → exact_end limit (exact_cycles x n) ≡ None)
+      → ExactRun limit (exact_cycles x count) new end → ExactRun limit x new end
 
 -- the journal
 

@@ -1,5 +1,5 @@
 -- How an exact run begins, its cycles, and its first end.
-use Rattle.std.specs.Prelude.{◌≡◌, ℕ, zero, suc, ◌<◌, false, List, [], ◌∷◌, map, Option, Some, None}
+use Rattle.std.specs.Prelude.{◌≡◌, ℕ, zero, suc, ◌<◌, false, List, [], ◌∷◌, ◌++◌, map, Option, Some, None}
 use Rattle.axi_link.specs.Channel.{empty}
 use Rattle.isa_step.specs.Deeds.{View}
 use Rattle.board_file.specs.declared.board.BoardFile.{BoardFile}
@@ -10,6 +10,7 @@ use Rattle.board_file.specs.declared.board.Pipeline.TheVariants.{Plain, Three, F
 use Rattle.timing_law.specs.declared.pipe.Pipe.{Pipe}
 use Rattle.timing_law.specs.declared.pipe.Pipe.TheVariants as pipe
 use Rattle.timing_law.specs.Past.{fresh}
+use Rattle.board_machine.specs.declared.events.Event.{Event}
 use Rattle.board_machine.specs.declared.events.RunEnd.{RunEnd}
 use Rattle.board_machine.specs.Cycles.{end_at, events_of}
 use Rattle.board_machine.specs.Fabric.{Fabric, no_breaks}
@@ -63,6 +64,11 @@ exact_cycle x = exact_steps x (events_of x.schedule x.fabric.cycle)
 abbrev pub exact_cycles : ExactWorld → ℕ → ExactWorld
 exact_cycles x zero = x
 exact_cycles x (suc n) = exact_cycle (exact_cycles x n)
+
+-- their events
+abbrev pub exact_events : ExactWorld → ℕ → List Event
+exact_events x zero = []
+exact_events x (suc n) = exact_events x n ++ events_of (exact_cycles x n).schedule (exact_cycles x n).fabric.cycle
 
 -- the end that is reached at the start of a cycle
 abbrev pub exact_end : ℕ → ExactWorld → Option RunEnd

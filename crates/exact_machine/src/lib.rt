@@ -9,7 +9,7 @@
 //! Each function here is a law, whose statement is its clause.
 #![tactic(auto)]
 
-ghost use Rattle.exact_machine.specs.Laws.{ActsAreTimed, ExactJournalsHaveLaws, ExactRunsAreOpen, ProfilesAddUp, RunsAreDetermined};
+ghost use Rattle.exact_machine.specs.Laws.{ActsAreTimed, ExactJournalsHaveLaws, ExactRunsAreOpen, ExactRunsJoin, ProfilesAddUp, RunsAreDetermined};
 
 use timing_law::past_is_exact;
 
@@ -24,6 +24,12 @@ pub fn exact_runs_are_open()
 #[tactic(auto, using(crate::proofs::Determined::determined))]
 pub fn runs_are_determined()
     ensures { RunsAreDetermined }
+{}
+
+/// Exact runs one after the other are one run, and cycles are steps.
+#[tactic(auto, using(crate::proofs::Joins::runs_join))]
+pub fn exact_runs_join()
+    ensures { ExactRunsJoin }
 {}
 
 /// The journal of each exact run has the laws of journals.
