@@ -1,0 +1,6 @@
+pub mod Machine
+pub mod Runs
+pub mod Opening
+pub mod Times
+pub mod Profile
+pub mod Laws
