@@ -71,9 +71,9 @@ buildable turn number =
     let small = few number in
     let cores : length (ring_cores (cores_of number)) ≡ cores_of number = length-map-range_with_len ring_core 0 (cores_of number) in
     let joined : length (map (ring_link (cores_of number)) (range_with_len 0 (cores_of number))) ≡ cores_of number =
-        length-map-range_with_len (ring_link (cores_of number)) 0 (cores_of number) in
+    length-map-range_with_len (ring_link (cores_of number)) 0 (cores_of number) in
     let links : length (ring_links (cores_of number)) ≡ length (map (ring_link (cores_of number)) (range_with_len 0 (cores_of number))) + 1 =
-        length-append (map (ring_link (cores_of number)) (range_with_len 0 (cores_of number))) (output_link ∷ []) in
+    length-append (map (ring_link (cores_of number)) (range_with_len 0 (cores_of number))) (output_link ∷ []) in
     record {
       few_cores = omega (arith, small, cores);
       few_links = omega (arith, small, joined, links);

@@ -112,11 +112,7 @@ fn ring_core(alloc: Global, number: u32, core: u16) -> Option<AnyCore>
     ensures new { IfSome result (λ made. IsNew (ring_core core) (any_state made)) }
 {
     let memory = ring_memory(alloc, number, core)?;
-    Some(AnyCore::new(
-        pipe_at(core),
-        memory,
-        Arch::fresh(0, Order::Big, true),
-    ))
+    Some(AnyCore::new(pipe_at(core), memory, Arch::fresh(0, Order::Big, true)))
 }
 
 /// The cores of the ring of a number; `None` for want of memory.

@@ -15,59 +15,79 @@ fn formula(number: u32) -> u32 {
 }
 
 /// Prints the summary of a ring, of which each run is to end with all cores at their end.
-fn check(rt: &impl Abort, alloc: Global, number: u32, printed: &str) -> Result<(), Fail> {
+fn check(
+    rt: &impl Abort,
+    alloc: Global,
+    number: u32,
+    sum: &str,
+    printed: &str,
+) -> Result<(), Fail> {
     let mut out = MemSink::new(Vec::new(alloc), Vec::new(alloc));
     let end = demo(alloc, number, &mut out);
     assert_eq!(rt; end, Ok(RunEnd::Rest(Rest::Ended)), "{number}");
     assert_eq!(rt; out.written(), printed.as_bytes(), "{number}");
+    assert_eq!(rt;
+        hex_of(formula(number)).as_slice(),
+        sum.as_bytes(),
+        "{number}"
+    );
     Ok(())
 }
 
 #[test]
 fn three_orders_give_one_sum(rt: HostRuntime) -> Result<(), Fail> {
-    let rows = [
-        (
-            0,
-            "00C401BC",
-            "demo 0 cores 2
+    check(
+        &rt,
+        rt.alloc(),
+        0,
+        "00C401BC",
+        "demo 0 cores 2
 ascending items 1000 sum 00C401BC
 descending items 1000 sum 00C401BC
 rotating items 1000 sum 00C401BC
 ",
-        ),
-        (
-            1,
-            "EF666354",
-            "demo 1 cores 3
+    )?;
+    check(
+        &rt,
+        rt.alloc(),
+        1,
+        "EF666354",
+        "demo 1 cores 3
 ascending items 1000 sum EF666354
 descending items 1000 sum EF666354
 rotating items 1000 sum EF666354
 ",
-        ),
-        (
-            14,
-            "0DA6BB84",
-            "demo 14 cores 16
+    )
+}
+
+#[test]
+fn the_longest_ring(rt: HostRuntime) -> Result<(), Fail> {
+    check(
+        &rt,
+        rt.alloc(),
+        14,
+        "0DA6BB84",
+        "demo 14 cores 16
 ascending items 1000 sum 0DA6BB84
 descending items 1000 sum 0DA6BB84
 rotating items 1000 sum 0DA6BB84
 ",
-        ),
-        (
-            999_999,
-            "D8967CE4",
-            "demo 999999 cores 11
+    )
+}
+
+#[test]
+fn the_greatest_number(rt: HostRuntime) -> Result<(), Fail> {
+    check(
+        &rt,
+        rt.alloc(),
+        999_999,
+        "D8967CE4",
+        "demo 999999 cores 11
 ascending items 1000 sum D8967CE4
 descending items 1000 sum D8967CE4
 rotating items 1000 sum D8967CE4
 ",
-        ),
-    ];
-    for (number, sum, printed) in rows {
-        assert_eq!(rt; hex_of(formula(number)).as_slice(), sum.as_bytes(), "{number}");
-        check(&rt, rt.alloc(), number, printed)?;
-    }
-    Ok(())
+    )
 }
 
 #[test]
