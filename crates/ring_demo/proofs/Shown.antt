@@ -1,5 +1,5 @@
 -- From what printing says to what the demonstration says.
-use Rattle.std.proofs.Common.{◌≡◌, ℕ, inr}
+use Rattle.std.proofs.Common.{ℕ, inr}
 use Rattle.std.specs.Prelude.{Result, Ok, Err}
 use Rattle.host_io.specs.Outside.{Rose, SinkState}
 use Rattle.host_io.specs.declared.faults.StoreFault.{StoreFault}

@@ -1,4 +1,4 @@
-use Rattle.std.proofs.Common.{◌≡◌, ℕ, ◌∙◌}
+use Rattle.std.proofs.Common.{◌∙◌}
 use Rattle.std.proofs.lemmas.Bool.{cond-true}
 use Rattle.ring_demo.proofs.Rings.{new_more, views_more}
 use Rattle.ring_demo.proofs.program.ring_cores.Goals as goal
