@@ -1,0 +1,5 @@
+pub mod Ring
+pub mod Programs
+pub mod Summary
+pub mod Runs
+pub mod Demo
