@@ -10,23 +10,25 @@ use Rattle.clap.specs.Kinds.{Kinds}
 use Rattle.clap.specs.Simple.{App, Shape}
 use Rattle.clap.specs.Walk.{Row, first_of}
 use Rattle.clap.specs.Words.{matches_of}
-use Rattle.command_words.specs.Splits.{IsAsmSplit, IsDisSplit, IsRawSplit, IsRunSplit, asm_app, dis_app, faults, raw_app, run_app, value_of}
-use Rattle.command_words.specs.Words.{Answers, Form, Text, asm_form, asm_with, dis_form, dis_with, is_raised, meant, raised_value, raw_form, raw_with, run_form, run_with}
+use Rattle.command_words.specs.Splits.{IsAsmSplit, IsDemoSplit, IsDisSplit, IsRawSplit, IsRunSplit, asm_app, demo_app, dis_app, faults, raw_app, run_app, value_of}
+use Rattle.command_words.specs.Words.{Answers, Form, Text, asm_form, asm_with, demo_form, demo_with, dis_form, dis_with, is_raised, meant, raised_value, raw_form, raw_with, run_form, run_with}
 use Rattle.command_words.specs.declared.command.Command.{Command}
 use Rattle.command_words.specs.declared.command.WordsFault.{WordsFault}
 use Rattle.command_words.specs.declared.command.WordsFault.TheVariants.{NoMemory, Usage}
 use Rattle.command_words.specs.declared.split.AsmWords.{AsmWords}
+use Rattle.command_words.specs.declared.split.DemoWords.{DemoWords}
 use Rattle.command_words.specs.declared.split.DisWords.{DisWords}
 use Rattle.command_words.specs.declared.split.RawWords.{RawWords}
 use Rattle.command_words.specs.declared.split.RunWords.{RunWords}
 use Rattle.command_words.proofs.AsmTable.{asm_is, asm_top, ended, order_is, placed_is, with_order}
+use Rattle.command_words.proofs.DemoTable.{demo_defaults, demo_is, demo_top}
 use Rattle.command_words.proofs.DisTable.{dis_defaults, dis_is, dis_top}
 use Rattle.command_words.proofs.Law.{IsPlainApp, law, no_default_rows, rows_in}
 use Rattle.command_words.proofs.Meanings.{IsSound, judged, reading_means, text_of, texts_at}
 use Rattle.command_words.proofs.RawTable.{raw_defaults, raw_is, raw_top}
 use Rattle.command_words.proofs.Rows.{Answer}
 use Rattle.command_words.proofs.RunTable.{run_defaults, run_is, run_options, run_top}
-use Rattle.command_words.proofs.Sounds.{asm_sound, dis_sound, raw_sound, run_sound}
+use Rattle.command_words.proofs.Sounds.{asm_sound, demo_sound, dis_sound, raw_sound, run_sound}
 use Rattle.command_words.proofs.Walks.{Agrees}
 
 -- ---- any command
@@ -69,6 +71,9 @@ asm_places = codes "SOURCE" ∷ codes "OUTPUT" ∷ []
 abbrev dis_places : List Text
 dis_places = codes "IMAGE" ∷ []
 
+abbrev demo_places : List Text
+demo_places = codes "N" ∷ []
+
 pub raw_refused : (words : List Text) → (faults raw_app words ≡ [] → ⊥) → meant raw_form (drop 1 words) ≡ None
 unfolding faults raw_form
 raw_refused words some = refused raw_app raw_top raw_form raw_places raw_is raw_sound words some
@@ -84,6 +89,10 @@ asm_refused words some = refused asm_app asm_top asm_form asm_places asm_is asm_
 pub dis_refused : (words : List Text) → (faults dis_app words ≡ [] → ⊥) → meant dis_form (drop 1 words) ≡ None
 unfolding faults dis_form
 dis_refused words some = refused dis_app dis_top dis_form dis_places dis_is dis_sound words some
+
+pub demo_refused : (words : List Text) → (faults demo_app words ≡ [] → ⊥) → meant demo_form (drop 1 words) ≡ None
+unfolding faults demo_form
+demo_refused words some = refused demo_app demo_top demo_form demo_places demo_is demo_sound words some
 
 two : (a b c d : List Text) → a ≡ c → b ≡ d → raw_with (a ++ (b ++ [])) ≡ raw_with (c ++ d)
 two a b c d p q = rw (append-nil b, p, q) refl
@@ -144,6 +153,15 @@ unfolding faults dis_form value_of
 dis_means words split s =
     let rows = no_default_rows dis_app dis_top [] [] dis_places dis_is dis_defaults words in
     taken dis_app dis_top dis_form dis_places dis_is dis_sound words s.taken ∙ one _ _ (ap (λ rs. text_of rs (codes "IMAGE")) rows ∙ ap option_to_list (sym s.image))
+
+sole : (a b : List Text) → a ≡ b → demo_with (a ++ []) ≡ demo_with b
+sole a b p = rw (append-nil a, p) refl
+
+pub demo_means : (words : List Text) (split : DemoWords) → IsDemoSplit words split → meant demo_form (drop 1 words) ≡ demo_with (given split.number)
+unfolding faults demo_form value_of
+demo_means words split s =
+    let rows = no_default_rows demo_app demo_top [] [] demo_places demo_is demo_defaults words in
+    taken demo_app demo_top demo_form demo_places demo_is demo_sound words s.taken ∙ sole _ _ (ap (λ rs. text_of rs (codes "N")) rows ∙ ap option_to_list (sym s.number))
 
 -- ---- the answers
 

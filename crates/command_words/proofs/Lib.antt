@@ -1,6 +1,7 @@
 pub mod AsmTable
 pub mod Commands
 pub mod Defaults
+pub mod DemoTable
 pub mod Digits
 pub mod DisTable
 pub mod Filled

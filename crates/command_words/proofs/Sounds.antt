@@ -2,7 +2,7 @@
 use Rattle.std.proofs.Common.{◌≡◌, ℕ, ◌<◌, ◌≤◌, ◌&&◌, ◌||◌, ◌++◌, Bool, true, false, codes, refl, sym, ap, subst, arith, length, List, [], ◌∷◌, Option, Some, None, if◌then◌else◌, nat_le, option_map}
 use Rattle.std.proofs.lemmas.Bool.{false≢true}
 use Rattle.std.specs.Str.{bytes_eq}
-use Rattle.command_words.specs.Words.{Text, asm_form, asm_of, asm_with, at_most_once, decimal_value, dis_form, dis_with, file_in, is_one_of, is_raised, number_in, raised_value, raw_form, raw_of, raw_with, run_form, run_of, run_with, most_cycles, most_entries}
+use Rattle.command_words.specs.Words.{Text, asm_form, asm_of, asm_with, at_most_once, decimal_value, demo_form, demo_with, dis_form, dis_with, file_in, is_one_of, is_raised, number_in, raised_value, raw_form, raw_of, raw_with, run_form, run_of, run_with, most_cycles, most_entries, most_number}
 use Rattle.command_words.specs.declared.command.Command.TheVariants.{Dis}
 use Rattle.command_words.proofs.Filled.{text_is}
 use Rattle.command_words.proofs.Meanings.{IsSound}
@@ -232,5 +232,30 @@ dis_sound = record {
   many = λ xs f long. dis_many xs long;
   twice = λ xs f n is. absurd (false≢true is);
   place = λ front rest back f. dis_dash front rest back;
+  value = λ xs f n front rest back is. absurd (false≢true is);
+}
+
+-- ---- `demo`
+
+demo_many : (xs : List Text) → 1 < length xs → demo_with xs ≡ None
+demo_many [] long = refl
+demo_many (a ∷ []) long = absurd (omega arith)
+demo_many (a ∷ b ∷ xs) long = refl
+
+demo_dash : (front : List Text) (rest : Text) (back : List Text) → demo_with (front ++ (45 ∷ rest) ∷ back) ≡ None
+demo_dash [] rest [] = rw (number_dash most_number rest) refl
+demo_dash [] rest (b ∷ back) = refl
+demo_dash (a ∷ []) rest back = refl
+demo_dash (a ∷ b ∷ front) rest back = refl
+
+pub demo_sound : IsSound demo_form (codes "N" ∷ [])
+unfolding demo_form
+demo_sound = record {
+  distinct = (refl, tt);
+  apart = λ n is. absurd (false≢true is);
+  same = λ xs f g e. refl;
+  many = λ xs f long. demo_many xs long;
+  twice = λ xs f n is. absurd (false≢true is);
+  place = λ front rest back f. demo_dash front rest back;
   value = λ xs f n front rest back is. absurd (false≢true is);
 }

@@ -9,6 +9,7 @@ use Rattle.clap.specs.Faults.{fault_of}
 use Rattle.clap.specs.declared.builder.action.ArgAction.TheVariants.{SetTrue}
 use Rattle.command_words.specs.Words.{Text, raised_value}
 use Rattle.command_words.specs.declared.split.AsmWords.{AsmWords}
+use Rattle.command_words.specs.declared.split.DemoWords.{DemoWords}
 use Rattle.command_words.specs.declared.split.DisWords.{DisWords}
 use Rattle.command_words.specs.declared.split.RawWords.{RawWords}
 use Rattle.command_words.specs.declared.split.RunWords.{RunWords}
@@ -39,6 +40,9 @@ asm_app =
 
 unfoldable pub dis_app : App
 dis_app = with_rule (without_help (new_app (codes "dis"))) (new_rule (codes "IMAGE"))
+
+unfoldable pub demo_app : App
+demo_app = with_rule (without_help (new_app (codes "demo"))) (new_rule (codes "N"))
 
 -- the kinds of fault of the words
 unfoldable pub faults : App → List Text → Kinds
@@ -73,3 +77,8 @@ pub record IsAsmSplit (words : List Text) (split : AsmWords) : Type 0 where
 pub record IsDisSplit (words : List Text) (split : DisWords) : Type 0 where
   pub taken : faults dis_app words ≡ []
   pub image : option_map (λ w. w.now) split.image ≡ value_of dis_app words (codes "IMAGE")
+
+-- the same of `demo`
+pub record IsDemoSplit (words : List Text) (split : DemoWords) : Type 0 where
+  pub taken : faults demo_app words ≡ []
+  pub number : option_map (λ w. w.now) split.number ≡ value_of demo_app words (codes "N")

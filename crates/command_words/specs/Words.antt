@@ -5,7 +5,7 @@ use Rattle.std.specs.List.{after_first, before_first, flat_map, list_all, list_a
 use Rattle.std.specs.Str.{bytes_eq}
 use Rattle.host_io.specs.Names.{is_file_name}
 use Rattle.command_words.specs.declared.command.Command.{Command}
-use Rattle.command_words.specs.declared.command.Command.TheVariants.{Asm, Dis, Raw, Run}
+use Rattle.command_words.specs.declared.command.Command.TheVariants.{Asm, Demo, Dis, Raw, Run}
 use Rattle.command_words.specs.declared.command.WordsFault.{WordsFault}
 use Rattle.command_words.specs.declared.command.WordsFault.TheVariants.{NoMemory, Usage}
 
@@ -146,6 +146,9 @@ most_cycles = 1_000_000_000_000
 abbrev pub most_entries : ℕ
 most_entries = 33_554_432
 
+abbrev pub most_number : ℕ
+most_number = 999_999
+
 abbrev pub raw_of : Option Text → Option ℕ → Option Command
 raw_of (Some file) (Some cycles) = Some (Raw file cycles)
 raw_of _ _ = None
@@ -180,6 +183,11 @@ abbrev pub dis_with : List Text → Option Command
 dis_with (image ∷ []) = option_map (λ image. Dis image) (file_in image)
 dis_with _ = None
 
+-- `demo N`
+abbrev pub demo_with : List Text → Option Command
+demo_with (number ∷ []) = option_map Demo (number_in most_number number)
+demo_with _ = None
+
 unfoldable pub raw_form : Form
 raw_form = record { options = []; flags = []; meaning = λ words values. raw_with words }
 
@@ -196,6 +204,9 @@ asm_form = record { options = []; flags = codes "little" ∷ []; meaning = λ wo
 unfoldable pub dis_form : Form
 dis_form = record { options = []; flags = []; meaning = λ words values. dis_with words }
 
+unfoldable pub demo_form : Form
+demo_form = record { options = []; flags = []; meaning = λ words values. demo_with words }
+
 -- what these words after the command mean to it
 abbrev pub meant : Form → List Text → Option Command
 meant form words = said form (parts form.flags None words)
@@ -208,6 +219,7 @@ command_of (word ∷ words) =
     else if bytes_eq word (codes "run") then meant run_form words
     else if bytes_eq word (codes "asm") then meant asm_form words
     else if bytes_eq word (codes "dis") then meant dis_form words
+    else if bytes_eq word (codes "demo") then meant demo_form words
     else None
 
 -- the answer to words of this meaning

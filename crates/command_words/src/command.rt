@@ -26,6 +26,10 @@ pub enum Command {
     Dis {
         image: FileName,
     },
+    /// `demo N`: runs the ring of a number under three orders.
+    Demo {
+        number: u32,
+    },
 }
 
 /// Why words give no command.

@@ -1,11 +1,12 @@
 ghost use Rattle.std.specs.Prelude.{◌≡◌, ◌∷◌, ◌++◌, [], None, Some, drop, if◌then◌else◌, map, option_map, option_to_list};
 ghost use Rattle.command_words.specs.Words;
-ghost use Rattle.command_words.specs.Words.{Answers, asm_form, asm_with, at_most_once, command_of, dis_form, dis_with, meant, most_cycles, most_entries, raised_value, raw_form, raw_with, run_form, run_with};
+ghost use Rattle.command_words.specs.Words.{Answers, asm_form, asm_with, at_most_once, command_of, demo_form, demo_with, dis_form, dis_with, meant, most_cycles, most_entries, raised_value, raw_form, raw_with, run_form, run_with};
 
 use crate::command::{Command, WordsFault};
 use crate::number::number_in;
 use crate::split::{
-    AsmWords, DisWords, RawWords, RunWords, split_asm, split_dis, split_raw, split_run,
+    AsmWords, DemoWords, DisWords, RawWords, RunWords, split_asm, split_demo, split_dis, split_raw,
+    split_run,
 };
 use host_io::FileName;
 use std::alloc::Global;
@@ -13,6 +14,8 @@ use std::alloc::Global;
 const MOST_CYCLES: u64 = 1_000_000_000_000;
 
 const MOST_ENTRIES: u64 = 33_554_432;
+
+const MOST_NUMBER: u64 = 999_999;
 
 const DEFAULT_CYCLES: u64 = 10_000_000;
 
@@ -29,6 +32,7 @@ pub fn read_words(alloc: Global, words: &[&str]) -> Result<Command, WordsFault>
         [command, ..] if *command == "run" => read_run(alloc, words),
         [command, ..] if *command == "asm" => read_asm(alloc, words),
         [command, ..] if *command == "dis" => read_dis(alloc, words),
+        [command, ..] if *command == "demo" => read_demo(alloc, words),
         _ => Err(WordsFault::Usage),
     }
 }
@@ -63,6 +67,14 @@ fn read_dis<'a>(alloc: Global, words: &'a [&'a str]) -> Result<Command, WordsFau
 {
     let split = split_dis(alloc, words)?;
     dis(split).ok_or(WordsFault::Usage)
+}
+
+/// Reads the words of `demo`, the first of which is the command.
+fn read_demo<'a>(alloc: Global, words: &'a [&'a str]) -> Result<Command, WordsFault>
+    ensures { Answers (meant demo_form (drop 1 (map (λ word. word.now) words.now))) result }
+{
+    let split = split_demo(alloc, words)?;
+    demo(split).ok_or(WordsFault::Usage)
 }
 
 fn raw(split: RawWords) -> Option<Command>
@@ -105,6 +117,13 @@ fn dis(split: DisWords) -> Option<Command>
 {
     let image = file_in(split.image?)?;
     Some(Command::Dis { image })
+}
+
+fn demo(split: DemoWords) -> Option<Command>
+    ensures { result ≡ demo_with (option_to_list (option_map (λ w. w.now) split.entry.number)) }
+{
+    let number = number_in(MOST_NUMBER, split.number?)? as u32;
+    Some(Command::Demo { number })
 }
 
 /// The name of a file.

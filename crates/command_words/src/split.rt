@@ -3,7 +3,7 @@ ghost use Rattle.std.specs.Prelude.{◌≡◌, ◌≢◌, [], false, map, option
 ghost use Rattle.std.specs.Option.{option_map_or};
 ghost use Rattle.std.specs.Str.{bytes_eq};
 ghost use Rattle.clap.specs.Words.{app_of};
-ghost use Rattle.command_words.specs.Splits.{IsAsmSplit, IsDisSplit, IsRawSplit, IsRunSplit, asm_app, dis_app, faults, raw_app, run_app};
+ghost use Rattle.command_words.specs.Splits.{IsAsmSplit, IsDemoSplit, IsDisSplit, IsRawSplit, IsRunSplit, asm_app, demo_app, dis_app, faults, raw_app, run_app};
 ghost use Rattle.command_words.specs.Words.{raised_value};
 
 use crate::command::WordsFault;
@@ -39,6 +39,12 @@ pub struct AsmWords<'a> {
 #[derive(Clone, Copy, Debug, PartialEq, Eq)]
 pub struct DisWords<'a> {
     pub image: Option<&'a str>,
+}
+
+/// The text of `demo N`.
+#[derive(Clone, Copy, Debug, PartialEq, Eq)]
+pub struct DemoWords<'a> {
+    pub number: Option<&'a str>,
 }
 
 fn raw_command<'a>(alloc: Global) -> Result<Command<'a>, AllocError>
@@ -89,6 +95,15 @@ fn dis_command<'a>(alloc: Global) -> Result<Command<'a>, AllocError>
     Command::new(alloc, "dis")
         .disable_help_flag(true)
         .arg(image)
+}
+
+fn demo_command<'a>(alloc: Global) -> Result<Command<'a>, AllocError>
+    ensures { IfOk result (λ c. app_of c ≡ demo_app) }
+{
+    let number = Arg::new(alloc, "N");
+    Command::new(alloc, "demo")
+        .disable_help_flag(true)
+        .arg(number)
 }
 
 /// Splits the words of `raw`, the first of which is the command.
@@ -184,6 +199,28 @@ pub fn split_dis<'a>(alloc: Global, words: &'a [&'a str]) -> Result<DisWords<'a>
     match command.try_get_matches_from(words) {
         Ok(matches) => Ok(DisWords {
             image: matches.get_str("IMAGE"),
+        }),
+        Err(error) => {
+            if error.kind() == ErrorKind::OutOfMemory {
+                Err(WordsFault::NoMemory)
+            } else {
+                Err(WordsFault::Usage)
+            }
+        }
+    }
+}
+
+/// Splits the words of `demo`, the first of which is the command.
+pub fn split_demo<'a>(alloc: Global, words: &'a [&'a str]) -> Result<DemoWords<'a>, WordsFault>
+    ensures ok { IfOk result (IsDemoSplit (map (λ w. w.now) words.entry.now)) }
+    ensures usage { IsErrOf result WordsFault.Usage → faults demo_app (map (λ w. w.now) words.entry.now) ≢ [] }
+{
+    let Ok(command) = demo_command(alloc) else {
+        return Err(WordsFault::NoMemory);
+    };
+    match command.try_get_matches_from(words) {
+        Ok(matches) => Ok(DemoWords {
+            number: matches.get_str("N"),
         }),
         Err(error) => {
             if error.kind() == ErrorKind::OutOfMemory {

@@ -8,6 +8,7 @@ enum Said<'a> {
     Run(&'a str, u64, u32, Option<&'a str>),
     Asm(&'a str, &'a str, bool),
     Dis(&'a str),
+    Demo(u32),
     Fault(WordsFault),
 }
 
@@ -38,13 +39,14 @@ fn answered(answer: &Result<Command, WordsFault>) -> Said<'_> {
             },
         ) => Said::Asm(source.as_text(), output.as_text(), *is_little),
         Ok(Command::Dis { image }) => Said::Dis(image.as_text()),
+        Ok(Command::Demo { number }) => Said::Demo(*number),
         Err(fault) => Said::Fault(*fault),
     }
 }
 
 #[test]
 fn words_mean_commands(rt: HostRuntime) -> Result<(), Fail> {
-    let rows: [(&[&str], Said); 16] = [
+    let rows: [(&[&str], Said); 18] = [
         (&["raw", "image", "007"], Said::Raw("image", 7)),
         (
             &["raw", "--", "a/b", "1000000000000"],
@@ -85,6 +87,8 @@ fn words_mean_commands(rt: HostRuntime) -> Result<(), Fail> {
         ),
         (&["dis", "a.elf"], Said::Dis("a.elf")),
         (&["dis", "--", "dis"], Said::Dis("dis")),
+        (&["demo", "007"], Said::Demo(7)),
+        (&["demo", "--", "999999"], Said::Demo(999_999)),
     ];
     for (words, wanted) in rows {
         let answer = read_words(rt.alloc(), words);
@@ -95,7 +99,7 @@ fn words_mean_commands(rt: HostRuntime) -> Result<(), Fail> {
 
 #[test]
 fn other_words_are_refused(rt: HostRuntime) -> Result<(), Fail> {
-    let rows: [&[&str]; 35] = [
+    let rows: [&[&str]; 40] = [
         &[],
         &["asm"],
         &["asm", "a"],
@@ -131,6 +135,11 @@ fn other_words_are_refused(rt: HostRuntime) -> Result<(), Fail> {
         &["run", "b", "--cycles", "1000000000001"],
         &["run", "b", "--journal", "33554433"],
         &["run", "b", "--write-journal=-x"],
+        &["demo"],
+        &["demo", "-"],
+        &["demo", "1", "2"],
+        &["demo", "1000000"],
+        &["demo", "1", "--cycles=5"],
     ];
     for words in rows {
         let answer = read_words(rt.alloc(), words);

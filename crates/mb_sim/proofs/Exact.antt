@@ -2,12 +2,13 @@
 use Rattle.std.proofs.Common.{◌≡◌, ℕ, ◌<◌, ◌≤◌, List, length, Option, Some, None, Err, inl, inr, refl, sym, ap, subst, ◌∙◌, arith}
 use Rattle.std.specs.Prelude.{IfSome}
 use Rattle.host_io.specs.Outside.{Files, IsLonger, ShelfState, SinkState}
+use Rattle.host_io.specs.declared.faults.StoreFault.TheVariants as store
 use Rattle.board_machine.specs.declared.events.RunEnd.{RunEnd}
 use Rattle.board_machine.specs.declared.events.RunEnd.TheVariants as end
 use Rattle.board_machine.specs.declared.events.Rest.TheVariants as rest
 use Rattle.board_machine.specs.World.{World}
 use Rattle.command_words.specs.declared.command.Command.{Command}
-use Rattle.command_words.specs.declared.command.Command.TheVariants.{Asm, Dis, Raw, Run}
+use Rattle.command_words.specs.declared.command.Command.TheVariants.{Asm, Demo, Dis, Raw, Run}
 use Rattle.mb_sim.specs.declared.status.Status.{Status}
 use Rattle.mb_sim.specs.declared.status.Status.TheVariants.{Ended, Stopped, CyclesSpent, JournalFull, Usage, ReadFault, BadBoard, BadImage, WriteFault, NoMemory, BadInput, BadSource, TooLong, Waiting}
 use Rattle.source_tools.specs.declared.refusal.Refusal.TheVariants as refusal
@@ -21,6 +22,7 @@ nothing_done (Some (Raw file cycles)) shelf out = record { says = inl refl; file
 nothing_done (Some (Run board cycles entries journal)) shelf out = no_memory refl refl
 nothing_done (Some (Asm source output is_little)) shelf out = record { answer = Err refusal.NoMemory; told = refl; says = inl refl; quiet = refl }
 nothing_done (Some (Dis image)) shelf out = record { answer = Err refusal.NoMemory; told = refl; says = inl (refl, refl) }
+nothing_done (Some (Demo number)) shelf out = record { shown = record { result = Err store.NoMemory; shows = inl refl; is = refl }; shelf = refl }
 
 -- what is said of told files is said of these
 told_of : (files : Option Files) (these : Files) (P : Files → Type 0) → files ≡ Some these → IfSome files P → P these

@@ -22,7 +22,7 @@ use Rattle.mb_sim.specs.Top.{Answers, HasRun, IsFairRun}
 use Rattle.mb_sim.specs.declared.run.RunWords.{RunWords}
 use Rattle.mb_sim.specs.declared.status.Status.{Status}
 
-ended : (how : RunEnd) → HasRun (status_of how)
+pub ended : (how : RunEnd) → HasRun (status_of how)
 ended (end.Rest rest.Ended) = tt
 ended (end.Rest rest.Waiting) = tt
 ended (end.Rest rest.Stopped) = tt

@@ -4,5 +4,6 @@ mod Limits
 mod Boards
 mod Exact
 mod FairRuns
+mod Demos
 mod RawSays
 pub mod ToolSays

@@ -6,14 +6,15 @@ use Rattle.std.specs.Str.{bytes_eq}
 use Rattle.std.proofs.lemmas.Bool.Decides.{nat_tests}
 use Rattle.std.proofs.lemmas.Option.{same_Some}
 use Rattle.command_words.specs.declared.command.Command.{Command}
-use Rattle.command_words.specs.declared.command.Command.TheVariants.{Asm, Dis, Raw, Run}
-use Rattle.command_words.specs.Words.{Form, Part, Text, asm_form, asm_of, asm_with, at_most_once, command_of, decimal_value, dis_form, dis_with, file_in, is_known, is_number, is_raised, most_cycles, number_in, parts, places, raw_form, raw_of, raw_with, run_form, run_of, run_with, said, values}
+use Rattle.command_words.specs.declared.command.Command.TheVariants.{Asm, Demo, Dis, Raw, Run}
+use Rattle.command_words.specs.Words.{Form, Part, Text, asm_form, asm_of, asm_with, at_most_once, command_of, decimal_value, demo_form, demo_with, dis_form, dis_with, file_in, is_known, is_number, is_raised, most_cycles, most_number, number_in, parts, places, raw_form, raw_of, raw_with, run_form, run_of, run_with, said, values}
 
 abbrev pub cycles_of : Command → ℕ
 cycles_of (Raw file cycles) = cycles
 cycles_of (Run board cycles journal write_journal) = cycles
 cycles_of (Asm source output is_little) = 0
 cycles_of (Dis image) = 0
+cycles_of (Demo number) = 0
 
 pub record IsSmall (c : Command) : Type 0 where
   pub cycles : cycles_of c ≤ 1_000_000_000_000
@@ -87,19 +88,27 @@ dis_small (image ∷ []) c e = dis_by (file_in image) c e
 dis_small (image ∷ more ∷ others) c e = cc
 dis_small [] c e = cc
 
-by_word : (raw run asm dis : Bool) (a b d f : Option Command) (c : Command) → (a ≡ Some c → IsSmall c) → (b ≡ Some c → IsSmall c) → (d ≡ Some c → IsSmall c) → (f ≡ Some c → IsSmall c)
-    → cond raw a (cond run b (cond asm d (cond dis f None))) ≡ Some c → IsSmall c
-by_word true run asm dis a b d f c p q r s e = p e
-by_word false true asm dis a b d f c p q r s e = q e
-by_word false false true dis a b d f c p q r s e = r e
-by_word false false false true a b d f c p q r s e = s e
-by_word false false false false a b d f c p q r s e = cc
+demo_by : (number : Option ℕ) (c : Command) → option_map Demo number ≡ Some c → IsSmall c
+demo_by (Some number) c e = subst IsSmall (same_Some _ _ e) (record { cycles = omega arith })
+demo_by None c e = cc
+
+demo_small : (words : List Text) (c : Command) → demo_with words ≡ Some c → IsSmall c
+demo_small (number ∷ []) c e = demo_by (number_in most_number number) c e
+demo_small (number ∷ more ∷ others) c e = cc
+demo_small [] c e = cc
+
+-- the command of the first word that fits
+by_word : (fits : Bool) (a b : Option Command) (c : Command) → (a ≡ Some c → IsSmall c) → (b ≡ Some c → IsSmall c) → cond fits a b ≡ Some c → IsSmall c
+by_word true a b c p q e = p e
+by_word false a b c p q e = q e
 
 pub command_small : (words : List Text) (c : Command) → command_of words ≡ Some c → IsSmall c
-unfolding command_of raw_form run_form asm_form dis_form
+unfolding command_of raw_form run_form asm_form dis_form demo_form
 command_small [] c e = cc
-command_small (word ∷ words) c e = by_word (bytes_eq word (codes "raw")) (bytes_eq word (codes "run")) (bytes_eq word (codes "asm")) (bytes_eq word (codes "dis")) _ _ _ _ c
-    (said_small raw_form (λ ws vs c e. raw_small ws c e) (parts [] None words) c)
-    (said_small run_form (λ ws vs c e. run_small ws (vs (codes "cycles")) (vs (codes "journal")) (vs (codes "write-journal")) c e) (parts [] None words) c)
-    (said_small asm_form (λ ws vs c e. asm_small ws (vs (codes "little")) c e) (parts (codes "little" ∷ []) None words) c)
-    (said_small dis_form (λ ws vs c e. dis_small ws c e) (parts [] None words) c) e
+command_small (word ∷ words) c e =
+    by_word (bytes_eq word (codes "raw")) _ _ c (said_small raw_form (λ ws vs c e. raw_small ws c e) (parts [] None words) c)
+    (by_word (bytes_eq word (codes "run")) _ _ c (said_small run_form (λ ws vs c e. run_small ws (vs (codes "cycles")) (vs (codes "journal")) (vs (codes "write-journal")) c e) (parts [] None words) c)
+    (by_word (bytes_eq word (codes "asm")) _ _ c (said_small asm_form (λ ws vs c e. asm_small ws (vs (codes "little")) c e) (parts (codes "little" ∷ []) None words) c)
+    (by_word (bytes_eq word (codes "dis")) _ _ c (said_small dis_form (λ ws vs c e. dis_small ws c e) (parts [] None words) c)
+    (by_word (bytes_eq word (codes "demo")) _ None c (said_small demo_form (λ ws vs c e. demo_small ws c e) (parts [] None words) c) (λ e. cc)))))
+    e

@@ -2,6 +2,7 @@ pub mod Lines
 pub mod Runs
 pub mod Raw
 pub mod Board
+pub mod Demo
 pub mod Top
 pub mod Program
 pub mod ToolStatus

@@ -11,10 +11,11 @@ use Rattle.board_machine.specs.declared.events.RunEnd.{RunEnd}
 use Rattle.board_machine.specs.declared.events.RunEnd.TheVariants as end
 use Rattle.board_machine.specs.World.{Inputs, World}
 use Rattle.command_words.specs.declared.command.Command.{Command}
-use Rattle.command_words.specs.declared.command.Command.TheVariants.{Asm, Dis, Raw, Run}
+use Rattle.command_words.specs.declared.command.Command.TheVariants.{Asm, Demo, Dis, Raw, Run}
 use Rattle.mb_sim.specs.declared.status.Status.{Status}
 use Rattle.mb_sim.specs.declared.status.Status.TheVariants.{Ended, Waiting, Stopped, CyclesSpent, JournalFull, Usage, ReadFault, WriteFault, NoMemory, TooLong}
 use Rattle.mb_sim.specs.Board.{Says as SaysRun}
+use Rattle.mb_sim.specs.Demo.{SaysDemo}
 use Rattle.mb_sim.specs.Raw.{no_inputs, printed, raw_board, raw_view}
 use Rattle.mb_sim.specs.Runs.{IsRunOf}
 use Rattle.mb_sim.specs.Tools.{SaysAssembled, SaysListed}
@@ -86,6 +87,7 @@ Answers (Some (Raw file cycles)) = SaysRaw (record { file = file; cycles = cycle
 Answers (Some (Run board cycles entries journal)) = SaysRun (record { file = board; cycles = cycles; entries = entries; journal = journal })
 Answers (Some (Asm source output is_little)) = SaysAssembled source output is_little
 Answers (Some (Dis image)) = SaysListed image
+Answers (Some (Demo number)) = SaysDemo number
 
 -- a load that failed is answered by its fault
 abbrev pub CountsLoads : ℕ → ℕ → Status → Type 0

@@ -1,8 +1,8 @@
-//! An emulator of MicroBlaze boards: `mbsim run BOARD`, and `mbsim raw FILE CYCLES` for one core; `mbsim asm SOURCE OUTPUT`
-//! and `mbsim dis IMAGE` for their programs.
+//! An emulator of MicroBlaze boards: `mbsim run BOARD`, `mbsim raw FILE CYCLES` for one core and `mbsim demo N` for a ring;
+//! `mbsim asm SOURCE OUTPUT` and `mbsim dis IMAGE` for their programs.
 //!
 //! `mbsim` (in `top`) is the program without its outside: it does what the words say on any shelf of files and any streams,
-//! and answers a `Status`. `run`, `raw` and `tools` do the commands; `tell` makes the line of a status for standard error. `main`
+//! and answers a `Status`. `run`, `raw`, `ring` and `tools` do the commands; `tell` makes the line of a status for standard error. `main`
 //! hands on the words of the process, its files and its streams, and ends with the number of the status.
 #![tactic(auto)]
 
@@ -13,6 +13,7 @@ mod device_tests;
 mod print;
 mod program;
 mod raw;
+mod ring;
 mod run;
 mod runs;
 mod status;

@@ -196,6 +196,23 @@ fn programs_print_what_the_guide_says(rt: HostRuntime) -> Result<(), Fail> {
 }
 
 #[test]
+fn a_ring_is_shown(rt: HostRuntime) -> Result<(), Fail> {
+    let printed = b"demo 0 cores 2
+ascending items 1000 sum 00C401BC
+descending items 1000 sum 00C401BC
+rotating items 1000 sum 00C401BC
+";
+    check(
+        &rt,
+        rt.alloc(),
+        &Row {
+            printed,
+            ..Row::of(&["demo", "0"], b"")
+        },
+    )
+}
+
+#[test]
 fn other_words_are_usage(rt: HostRuntime) -> Result<(), Fail> {
     let rows: [&[&str]; 13] = [
         &[],

@@ -1,12 +1,14 @@
 //! The top call: all that the program does.
 ghost use Rattle.std.specs.Prelude.{◌≡◌, ◌<◌, ◌≤◌, Bool, None, Option, Some, List, ℕ, map, length};
+ghost use Rattle.host_io.specs.Outside.{Rose};
 ghost use Rattle.command_words.specs.Words.{command_of};
-ghost use Rattle.command_words.specs.declared.command.Command.TheVariants.{Asm as AsmOf, Dis as DisOf, Raw as RawWords, Run as RunOf};
+ghost use Rattle.command_words.specs.declared.command.Command.TheVariants.{Asm as AsmOf, Demo as DemoOf, Dis as DisOf, Raw as RawWords, Run as RunOf};
 ghost use Rattle.mb_sim.specs.Lines.{told};
 ghost use Rattle.mb_sim.specs.ToolStatus.{AsmIsExact, DisIsExact};
 ghost use Rattle.mb_sim.specs.Top.{Answers, CountsLoads, CountsWrites, HasRun, IsAnswer, IsFair, IsFairRun, IsTold};
 
 use crate::raw::raw;
+use crate::ring::show_ring;
 use crate::run::{RunWords, run};
 use crate::status::Status;
 use crate::tell::tell;
@@ -56,6 +58,10 @@ pub fn mbsim<S: Shelf, C: Source, O: Sink, E: Sink>(
     ensures complete_dis { (image : List ℕ)
         → command_of (map (λ word. word.now) words.now) ≡ Some (DisOf image)
         → DisIsExact image (S.state shelf.old) (S.state shelf.new) (O.state out.old) (O.state out.new) result }
+    // where no fault was counted, a ring is run in each order
+    ensures complete_demo { (number : ℕ)
+        → command_of (map (λ word. word.now) words.now) ≡ Some (DemoOf number)
+        → ¬ Rose (O.state out.old).faults (O.state out.new).faults → HasRun result }
 {
     let status = obey(alloc, words, shelf, out, probes);
     tell(alloc, err, &status);
@@ -106,6 +112,7 @@ fn obey<S: Shelf, O: Sink>(
             },
         ) => assemble(alloc, &source, &output, is_little, shelf),
         Ok(Command::Dis { image }) => disassemble(alloc, &image, shelf, out),
+        Ok(Command::Demo { number }) => show_ring(alloc, number, out),
         Err(WordsFault::Usage) => Status::Usage,
         Err(WordsFault::NoMemory) => Status::NoMemory,
     }

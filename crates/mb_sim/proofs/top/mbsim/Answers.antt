@@ -1,3 +1,4 @@
+use Rattle.mb_sim.proofs.Demos.{demo_runs}
 use Rattle.mb_sim.proofs.Exact.{completes, long_answer}
 use Rattle.mb_sim.proofs.FairRuns.{runs_whole}
 use Rattle.mb_sim.proofs.ToolSays.{assembles, lists}
@@ -17,3 +18,6 @@ returns-clause-complete_asm g c source output is_little is = assembles _ source 
 
 pub returns-clause-complete_dis : goal.returns-clause-complete_dis
 returns-clause-complete_dis g c image is = lists _ image _ _ _ _ _ c.obey-status.ensures.says is
+
+pub returns-clause-complete_demo : goal.returns-clause-complete_demo
+returns-clause-complete_demo g c number is quiet = demo_runs _ number _ _ _ _ _ c.obey-status.ensures.says is quiet

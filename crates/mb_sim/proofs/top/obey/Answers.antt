@@ -1,6 +1,7 @@
-use Rattle.std.proofs.Common.{map, subst, sym, ap, ◌∙◌, Option, Some}
+use Rattle.std.proofs.Common.{map, subst, refl, sym, ap, ◌∙◌, Option, Some}
 use Rattle.command_words.specs.declared.command.Command.{Command}
 use Rattle.mb_sim.specs.Top.{Answers}
+use Rattle.mb_sim.proofs.Demos.{same_loads, same_writes}
 use Rattle.mb_sim.proofs.Exact.{nothing_done}
 use Rattle.mb_sim.proofs.Limits.{IsSmall, command_small}
 use Rattle.mb_sim.proofs.top.obey.Goals as goal
@@ -37,3 +38,14 @@ returns-in-Ok-Dis-clause-says g c =
 
 pub returns-in-Err-NoMemory-clause-says : goal.returns-in-Err-NoMemory-clause-says
 returns-in-Err-NoMemory-clause-says g c = nothing_done _ (g.S.Shelf.state c.args.shelf.now) (g.O.Sink.state c.args.out.now)
+
+pub returns-in-Ok-Demo-clause-says : goal.returns-in-Ok-Demo-clause-says
+returns-in-Ok-Demo-clause-says g c =
+    let P : Option Command → Type 0 = λ o. Answers o (g.S.Shelf.state c.args.shelf.now) (g.S.Shelf.state c.args.shelf.now) (g.O.Sink.state c.args.out.now) (g.O.Sink.state c.show_ring.new.out) c.show_ring.result in
+    subst P (sym (c.in-Ok-Demo.ensures ∙ ap Some c.in-Ok-Demo.field-0-is)) (record { shown = c.show_ring.ensures.shown; shelf = refl })
+
+pub returns-in-Ok-Demo-clause-loads : goal.returns-in-Ok-Demo-clause-loads
+returns-in-Ok-Demo-clause-loads g c = same_loads (g.S.Shelf.state c.args.shelf.now).faults.load_faults c.show_ring.result
+
+pub returns-in-Ok-Demo-clause-shelf_writes : goal.returns-in-Ok-Demo-clause-shelf_writes
+returns-in-Ok-Demo-clause-shelf_writes g c = same_writes (g.S.Shelf.state c.args.shelf.now).faults.write_faults c.show_ring.result
