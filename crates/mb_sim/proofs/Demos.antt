@@ -20,7 +20,7 @@ use Rattle.mb_sim.proofs.FairRuns.{ended}
 -- where no fault was counted, the runs ended, or memory was wanting
 shown_runs : (number : ℕ) (out out' : SinkState) (result : Result RunEnd StoreFault) → Shows number out out' result → ¬ Rose out.faults out'.faults → HasRun (status_of_demo result)
 shown_runs number out out' (Ok how) shows quiet = ended how
-shown_runs number out out' (Err store.Failed) (runs, has, part, counted) quiet = absurd (quiet counted.0)
+shown_runs number out out' (Err store.Failed) (runs, has, prints) quiet = absurd (quiet prints.1.0)
 shown_runs number out out' (Err store.NoMemory) shows quiet = tt
 
 pub demo_runs : (o : Option Command) (number : ℕ) (shelf shelf' : ShelfState) (out out' : SinkState) (s : Status) → Answers o shelf shelf' out out' s → o ≡ Some (Demo number)
@@ -40,10 +40,10 @@ ended_counts before now end.CyclesSpent e = e
 ended_counts before now end.JournalFull e = e
 
 shown_counts : (number : ℕ) (out out' : SinkState) (result : Result RunEnd StoreFault) → Shows number out out' result → CountsWrites out.faults out'.faults (status_of_demo result)
-shown_counts number out out' (Ok how) (runs, has, is, written, same) = ended_counts out.faults out'.faults how same
+shown_counts number out out' (Ok how) (runs, has, prints) = ended_counts out.faults out'.faults how prints.1.1
 shown_counts number out out' (Err store.Failed) shows = tt
 shown_counts number out out' (Err store.NoMemory) (inl same) = ap (λ (s : SinkState). s.faults) same
-shown_counts number out out' (Err store.NoMemory) (inr (runs, has, part, same)) = same
+shown_counts number out out' (Err store.NoMemory) (inr (runs, has, prints)) = prints.1
 
 pub demo_counts : (number : ℕ) (out out' : SinkState) (s : Status) (result : Result RunEnd StoreFault) → Shows number out out' result → s ≡ status_of_demo result
     → CountsWrites out.faults out'.faults s

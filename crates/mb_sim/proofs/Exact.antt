@@ -22,7 +22,7 @@ nothing_done (Some (Raw file cycles)) shelf out = record { says = inl refl; file
 nothing_done (Some (Run board cycles entries journal)) shelf out = no_memory refl refl
 nothing_done (Some (Asm source output is_little)) shelf out = record { answer = Err refusal.NoMemory; told = refl; says = inl refl; quiet = refl }
 nothing_done (Some (Dis image)) shelf out = record { answer = Err refusal.NoMemory; told = refl; says = inl (refl, refl) }
-nothing_done (Some (Demo number)) shelf out = record { shown = record { result = Err store.NoMemory; shows = inl refl; is = refl }; shelf = refl }
+nothing_done (Some (Demo number)) shelf out = record { shown = record { result = Err store.NoMemory; shows = inl refl; is = refl }; quiet = refl }
 
 -- what is said of told files is said of these
 told_of : (files : Option Files) (these : Files) (P : Files → Type 0) → files ≡ Some these → IfSome files P → P these

@@ -1,6 +1,6 @@
 -- What `demo` does.
-use Rattle.std.specs.Prelude.{◌≡◌, ℕ, Option, Result, Ok, Err}
-use Rattle.host_io.specs.Outside.{Rose, ShelfState, SinkState}
+use Rattle.std.specs.Prelude.{◌≡◌, ℕ, Result, Ok, Err}
+use Rattle.host_io.specs.Outside.{ShelfState, SinkState}
 use Rattle.host_io.specs.declared.faults.StoreFault.{StoreFault}
 use Rattle.board_machine.specs.declared.events.RunEnd.{RunEnd}
 use Rattle.ring_demo.specs.Demo.{Shows}
@@ -22,4 +22,4 @@ pub record IsShown (number : ℕ) (out out' : SinkState) (status : Status) : Typ
 -- `demo` leaves the shelf as it is
 pub record SaysDemo (number : ℕ) (shelf shelf' : ShelfState) (out out' : SinkState) (status : Status) : Type 0 where
   pub shown : IsShown number out out' status
-  pub shelf : shelf' ≡ shelf
+  pub quiet : shelf' ≡ shelf

@@ -42,7 +42,7 @@ returns-in-Err-NoMemory-clause-says g c = nothing_done _ (g.S.Shelf.state c.args
 pub returns-in-Ok-Demo-clause-says : goal.returns-in-Ok-Demo-clause-says
 returns-in-Ok-Demo-clause-says g c =
     let P : Option Command → Type 0 = λ o. Answers o (g.S.Shelf.state c.args.shelf.now) (g.S.Shelf.state c.args.shelf.now) (g.O.Sink.state c.args.out.now) (g.O.Sink.state c.show_ring.new.out) c.show_ring.result in
-    subst P (sym (c.in-Ok-Demo.ensures ∙ ap Some c.in-Ok-Demo.field-0-is)) (record { shown = c.show_ring.ensures.shown; shelf = refl })
+    subst P (sym (c.in-Ok-Demo.ensures ∙ ap Some c.in-Ok-Demo.field-0-is)) (record { shown = c.show_ring.ensures.shown; quiet = refl })
 
 pub returns-in-Ok-Demo-clause-loads : goal.returns-in-Ok-Demo-clause-loads
 returns-in-Ok-Demo-clause-loads g c = same_loads (g.S.Shelf.state c.args.shelf.now).faults.load_faults c.show_ring.result
