@@ -2,9 +2,9 @@
 use Rattle.std.proofs.Common.{◌≡◌, ℕ, suc, ◌+◌, ◌-◌, ◌<◌, ◌≤◌, ◌^◌, ◌/◌, ◌%◌, true, subst, List, [], ◌∷◌, ◌++◌, length, replicate, refl, sym, ap, ◌∙◌, arith, append_assoc, length-append}
 use Rattle.std.proofs.lemmas.List.{append-nil}
 use Rattle.core_regs.specs.declared.causes.Order.{Order}
-use Rattle.core_regs.specs.declared.causes.Order.TheVariants.{Big, Little}
 use Rattle.mb_decode.specs.declared.instruction.Instr.{Instr}
 use Rattle.mb_decode.specs.Meaning.{Means}
+use Rattle.asm_source.proofs.Sized.{four_bytes}
 use Rattle.asm_source.specs.Source.{Code, Content, Datum, Holds, bytes_of, imm, plain, with_value}
 use Rattle.asm_image.specs.Built.{Puts}
 
@@ -32,10 +32,6 @@ unfolding Holds
 holds_word order w i bytes fits means is = (w, [], fits, means, is ∙ sym (append-nil (bytes_of order 4 w)), refl)
 
 -- there are bytes exactly where there are contents
-four_bytes : (order : Order) (w : ℕ) → length (bytes_of order 4 w) ≡ 4
-four_bytes Big w = refl
-four_bytes Little w = refl
-
 pub none_held : (order : Order) (xs : List ℕ) (cs : List Content) → length xs ≡ 0 → Holds order xs cs → cs ≡ []
 unfolding Holds
 none_held order xs [] none h = refl

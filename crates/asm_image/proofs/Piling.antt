@@ -7,6 +7,7 @@ use Rattle.std.proofs.lemmas.List.Elements.{All-append, All-cons, All-nil}
 use Rattle.core_regs.specs.declared.causes.Order.{Order}
 use Rattle.elf_image.specs.declared.image.Part.{Part}
 use Rattle.asm_layout.specs.Layout.{Numbers, place}
+use Rattle.asm_source.proofs.Piles.{not_part, onto_more, onto_none}
 use Rattle.asm_source.specs.declared.item.Item.{Item}
 use Rattle.asm_source.specs.declared.item.Item.TheVariants as item
 use Rattle.asm_source.specs.declared.item.Written.{Written}
@@ -19,14 +20,6 @@ use Rattle.asm_image.proofs.Holding.{holds_append, holds_same, none_held, some_h
 
 cut : {X : Type 0} (xs : List X) (k : ℕ) (d : X) → k < length xs → drop k xs ≡ get_or xs k d ∷ drop (k + 1) xs
 cut xs k d within = drop-cons xs k d within ∙ ap (λ n. get_or xs k d ∷ drop n xs) (sym (add-one k))
-
-onto_none : (ps : List Piled) → onto [] ps ≡ ps
-onto_none [] = refl
-onto_none (p ∷ ps) = refl
-
-onto_more : (cs ds : List Content) (ps : List Piled) → onto cs (onto ds ps) ≡ onto (cs ++ ds) ps
-onto_more cs ds [] = refl
-onto_more cs ds (p ∷ ps) = ap (λ (h : List Content). record { address = p.address; holds = h } ∷ ps) (sym (append_assoc cs ds p.holds))
 
 parts_append : (order : Order) (xs ys : List (ℕ × List ℕ)) (ps qs : List Piled) → AreParts order xs ps → AreParts order ys qs → AreParts order (xs ++ ys) (ps ++ qs)
 unfolding AreParts
@@ -118,17 +111,6 @@ module _ (order : Order) (items : List Item) (F : Numbers) (k : ℕ) (d : Item) 
             ∙ ap (λ qs. built.piled ++ filter has_contents qs) (sym split) ∙ built.left;
       }
 
-  not_part : (it : Item) (rest : List Item) → is_part it ≡ false → parts_from order F (place (pieces items) F) k b.start (it ∷ rest)
-      ≡ onto (contents order (place (pieces items) F) it (prefixed it (F k)) (place (pieces items) F k) (place (pieces items) F (k + 1))) (parts_from order F (place (pieces items) F) (k + 1) b.start rest)
-  unfolding parts_from
-  not_part (item.Part address) rest none = absurd (grind arith)
-  not_part (item.Instruction i value after_imm) rest none = refl
-  not_part (item.Word value) rest none = refl
-  not_part (item.Half value) rest none = refl
-  not_part (item.Byte value) rest none = refl
-  not_part (item.Space count) rest none = refl
-  not_part (item.Aligned alignment) rest none = refl
-
   -- an item of the open part
   pub item_put : is_part (get_or items k d) ≡ false → new.parts.items ≡ b.parts.items → new.start ≡ b.start
       → Puts order b.bytes.items new.bytes.items (contents order (place (pieces items) F) (get_or items k d) (prefixed (get_or items k d) (F k)) (place (pieces items) F k) (place (pieces items) F (k + 1)))
@@ -139,7 +121,7 @@ module _ (order : Order) (items : List Item) (F : Numbers) (k : ℕ) (d : Item) 
       let cs = contents order at it (prefixed it (F k)) (at k) (at (k + 1)) in
       let ps = parts_from order F at (k + 1) b.start (drop (k + 1) items) in
       let split : onto built.held (parts_from order F at k b.start (drop k items)) ≡ onto (built.held ++ cs) ps =
-      ap (λ its. onto built.held (parts_from order F at k b.start its)) (cut items k d within) ∙ ap (onto built.held) (not_part it (drop (k + 1) items) none) ∙ onto_more built.held cs ps in
+      ap (λ its. onto built.held (parts_from order F at k b.start its)) (cut items k d within) ∙ ap (onto built.held) (not_part order F at k b.start it (drop (k + 1) items) none) ∙ onto_more built.held cs ps in
       record {
         piled = built.piled;
         held = built.held ++ cs;

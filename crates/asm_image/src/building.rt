@@ -4,10 +4,11 @@ ghost use Rattle.std.specs.List.{All};
 ghost use Rattle.asm_layout.specs.Layout.{Numbers};
 ghost use Rattle.asm_layout.specs.Places.{AreBelow, ArePlaces, member};
 ghost use Rattle.asm_source.specs.declared.item.Item.{Item};
+ghost use Rattle.asm_source.specs.declared.item.Written.{Written};
 ghost use Rattle.core_regs.specs.declared.causes.Order.{Order};
 ghost use Rattle.asm_source.specs.Items.{pieces};
 ghost use Rattle.asm_source.specs.Second.{items_of};
-ghost use Rattle.asm_source.specs.Source.{AreParts, parts_of};
+ghost use Rattle.asm_source.specs.Source.{AreParts, HasWord, parts_of};
 ghost use Rattle.asm_image.specs.Built.{IsBuilt, IsPlain, address_of, closed, pair_of};
 
 use crate::contents::put_item;
@@ -87,6 +88,7 @@ impl Building {
         grown: &[bool],
         k: usize,
     ) -> Result<(), NoMemory>
+        requires spelled { All (λ (w : Written). HasWord w.item) all.now }
         requires within { k < length all.now }
         requires room { length places.now ≡ length all.now + 1 }
         requires same { length grown.now ≡ length all.now }
@@ -114,6 +116,7 @@ pub fn image_parts(
     places: &[u64],
     grown: &[bool],
 ) -> Result<Vec<Part>, NoMemory>
+    requires spelled { All (λ (w : Written). HasWord w.item) all.now }
     requires room { length places.now ≡ length all.now + 1 }
     requires same { length grown.now ≡ length all.now }
     requires laid { ArePlaces (pieces (items_of all.now)) (member grown.now) (length all.now) places.now }

@@ -3,7 +3,7 @@ ghost use Rattle.std.specs.Prelude.{◌≡◌, ◌+◌, ◌<◌, ◌^◌, List, 
 ghost use Rattle.asm_layout.specs.declared.piece.Piece.{Piece};
 ghost use Rattle.asm_layout.specs.Layout.{Numbers, place};
 ghost use Rattle.asm_layout.specs.Places.{AreBelow, ArePlaces};
-ghost use Rattle.asm_source.specs.Source.{contents, instruction_contents, plain};
+ghost use Rattle.asm_source.specs.Source.{HasWord, IsSpelled, contents, instruction_contents, plain};
 ghost use Rattle.asm_image.specs.Built.{Puts};
 
 use crate::numbers::{own_place, value_of, word_of};
@@ -34,6 +34,7 @@ fn put_instruction(
     long: bool,
     here: u64,
 ) -> Result<(), NoMemory>
+    requires spelled { IsSpelled instr value }
     requires here { here < 2 ^ 62 }
     requires some { 0 < length places.now }
     requires below { (n : ℕ) → length places.now ≡ n + 1 → AreBelow n places.now }
@@ -59,6 +60,7 @@ pub fn put_item(
     here: u64,
     next: u64,
 ) -> Result<(), NoMemory>
+    requires spelled { HasWord item }
     requires here { here < 2 ^ 62 }
     requires some { 0 < length places.now }
     requires below { (n : ℕ) → length places.now ≡ n + 1 → AreBelow n places.now }

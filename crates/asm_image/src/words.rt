@@ -1,5 +1,7 @@
 //! Bytes, half-words, words and instructions that are added to a part.
-ghost use Rattle.std.specs.Prelude.{◌≡◌, ◌++◌, ◌∷◌, ◌%◌, ◌^◌, [], OnOk};
+ghost use Rattle.std.specs.Prelude.{◌≡◌, ◌++◌, ◌∷◌, ◌%◌, ◌^◌, ◌<◌, [], ℕ, OnOk};
+ghost use Rattle.op_table.specs.Table.{row_for};
+ghost use Rattle.mb_decode.specs.Meaning.{Fits, Means};
 ghost use Rattle.asm_source.specs.Source.{Code, bytes_of, imm, plain, with_value};
 ghost use Rattle.asm_image.specs.Built.{Puts};
 
@@ -48,13 +50,20 @@ pub fn put(out: &mut Vec<u8>, order: Order, bytes: &[u8]) -> Result<(), NoMemory
     Ok(())
 }
 
+/// The word of an instruction that has one.
+fn word_of(instr: Instr) -> u32
+    requires { Fits (row_for instr.op).form instr }
+    ensures { Means result instr }
+{
+    encode(&instr).unwrap()
+}
+
 /// Adds the word of an instruction.
 pub fn put_code(out: &mut Vec<u8>, order: Order, instr: Instr) -> Result<(), NoMemory>
+    requires { Fits (row_for instr.op).form instr }
     ensures { OnOk result (Puts order out.old.items out.new.items (Code instr ∷ [])) }
 {
-    let Some(word) = encode(&instr) else {
-        return Err(NoMemory);
-    };
+    let word = word_of(instr);
     let bytes = word_bytes(order, word);
     add_bytes(out, &bytes)?;
     Ok(())
@@ -62,7 +71,8 @@ pub fn put_code(out: &mut Vec<u8>, order: Order, instr: Instr) -> Result<(), NoM
 
 /// The prefix with this half.
 fn imm(half: u16) -> Instr
-    ensures { result ≡ imm half }
+    ensures prefix { result ≡ imm half }
+    ensures spelled { Fits (row_for result.op).form result }
 {
     Instr {
         op: Op::Imm,
@@ -92,6 +102,7 @@ pub fn put_value(
     long: bool,
     value: u32,
 ) -> Result<(), NoMemory>
+    requires { (half : ℕ) → half < 2 ^ 16 → Fits (row_for instr.op).form (record instr { imm = half }) }
     ensures { OnOk result (Puts order out.old.items out.new.items (with_value instr long value)) }
 {
     let low = with_low(instr, value);

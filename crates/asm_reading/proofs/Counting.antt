@@ -1,7 +1,6 @@
 -- Each item stands for at least one byte of the source.
-use Rattle.std.proofs.Common.{◌≡◌, ℕ, zero, suc, ◌+◌, ◌-◌, ◌<◌, ◌≤◌, Bool, true, false, List, [], ◌∷◌, ◌++◌, length, map, take, drop, Option, None, Some, refl, sym, ap, ◌∙◌, arith, length-append, length-drop}
-use Rattle.std.specs.Prelude.{flat_map, not, nat_lt, if◌then◌else◌, ◌==◌, get_or, is_some}
-use Rattle.std.specs.List.{take_while}
+use Rattle.std.proofs.Common.{◌≡◌, ℕ, zero, suc, ◌+◌, ◌-◌, ◌≤◌, Bool, true, false, List, [], ◌∷◌, length, map, take, drop, Option, None, Some, refl, ap, arith, length-append, length-drop}
+use Rattle.std.specs.Prelude.{not, nat_lt, ◌==◌, get_or, is_some}
 use Rattle.std.proofs.lemmas.List.{length-map, length-take}
 use Rattle.mb_lex.specs.declared.token.LexRule.TheVariants.{BadCharacter}
 use Rattle.mb_lex.specs.Bytes.{begins_number, is_blank, starts_name}
@@ -10,9 +9,9 @@ use Rattle.mb_lex.specs.Lines.{first_fault, first_good, is_good}
 use Rattle.mb_lex.specs.Literals.{number_of, text_end}
 use Rattle.asm_syntax.specs.declared.mnemonics.Named.{Named}
 use Rattle.asm_syntax.specs.Spelling.{mnemonic}
+use Rattle.asm_source.proofs.Lists.{either}
 use Rattle.asm_source.specs.declared.item.Item.{Item}
 use Rattle.asm_source.specs.declared.item.Item.TheVariants as item
-use Rattle.asm_source.specs.declared.item.Written.{Written}
 use Rattle.asm_statement.specs.declared.directive.Directive.{Directive}
 use Rattle.asm_statement.specs.declared.operands.Operation.{Operation}
 use Rattle.asm_statement.specs.declared.values.Step.{Step}
@@ -21,16 +20,11 @@ use Rattle.asm_statement.specs.Directives.{directive, item_for}
 use Rattle.asm_statement.specs.Instructions.{instruction}
 use Rattle.asm_statement.specs.Labels.{Labels}
 use Rattle.asm_statement.specs.Operands.{before, is_comma, operands_from, operands_of}
-use Rattle.asm_statement.specs.Statements.{Told, by_directive, by_head, by_mnemonic, by_word, directive_told, instruction_told, nothing, operation_told, statement, takes_all}
+use Rattle.asm_statement.specs.Statements.{Told, by_directive, by_head, by_mnemonic, directive_told, instruction_told, operation_told, statement, takes_all}
 use Rattle.asm_statement.specs.Values.{at_head, by_step, items_for, listed, operand_items, text_bytes, text_step}
 use Rattle.asm_reading.specs.Lines.{first_line, line_len, lines_from, lines_of, without_return}
 use Rattle.asm_reading.specs.Marks.{behind_names, is_label}
 use Rattle.asm_reading.specs.Reading.{Read, head_of, line_read, lines_read, nothing_read}
-
--- a property of both answers of a test
-either : {X : Type 0} (P : X → Type 0) (b : Bool) (x y : X) → P x → P y → P (if b then x else y)
-either P true x y h k = h
-either P false x y h k = k
 
 -- ---- lexemes: the most items that each can ask for
 

@@ -4,3 +4,4 @@ pub mod Following
 pub mod LineByLine
 pub mod Names
 pub mod OneLine
+pub mod Speaking

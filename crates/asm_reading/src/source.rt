@@ -1,5 +1,8 @@
 //! A whole source: its labels first, then what it says.
-ghost use Rattle.std.specs.Prelude.{◌≡◌, ◌≤◌, ◌^◌, IfOk, OnOk, length};
+ghost use Rattle.std.specs.Prelude.{◌≡◌, ◌≤◌, ◌^◌, IfOk, OnOk, None, length};
+ghost use Rattle.std.specs.List.{All};
+ghost use Rattle.asm_source.specs.declared.item.Written.{Written};
+ghost use Rattle.asm_source.specs.Source.{HasWord};
 ghost use Rattle.asm_reading.specs.Lines.{lines_of};
 ghost use Rattle.asm_reading.specs.Tables.{labels_in};
 ghost use Rattle.asm_reading.specs.Reading.{labels_of, lines_read, read_of, source_read};
@@ -45,12 +48,13 @@ fn labels_of(alloc: Global, source: &[u8]) -> Result<LabelTable, NoMemory>
 }
 
 /// What is read of a source: its items, of which it has no more than bytes, its labels, where it begins, and the first
-/// fault of its lines.
+/// fault of its lines. Where it has none, each instruction has a word.
 #[tactic(auto, unfolding(crate::specs::Reading::source_read))]
 pub fn read_source(alloc: Global, source: &[u8]) -> Result<Reading, NoMemory>
     requires { length source.now ≤ 2 ^ 22 }
     ensures read { IfOk result (λ reading. read_of reading ≡ source_read source.now) }
     ensures few { IfOk result (λ reading. length reading.items.items ≤ length source.now) }
+    ensures spelled { IfOk result (λ reading. reading.marked.first ≡ None → All (λ (w : Written). HasWord w.item) reading.items.items) }
 {
     let labels = labels_of(alloc, source)?;
     let mut reading = Reading::new(alloc);

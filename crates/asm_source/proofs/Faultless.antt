@@ -1,6 +1,6 @@
 -- What a source has that has no fault in its layout: near addresses, few bytes and few parts.
-use Rattle.std.proofs.Common.{◌≡◌, ℕ, zero, suc, ◌+◌, ◌<◌, ◌≤◌, Bool, true, false, List, [], ◌∷◌, ◌++◌, length, None, refl, sym, ap, ◌∙◌, subst, arith, add-one}
-use Rattle.std.specs.Prelude.{flat_map, nat_lt, ◌&&◌, if◌then◌else◌, Option, ◌%◌, ◌==◌, not}
+use Rattle.std.proofs.Common.{◌≡◌, ℕ, zero, suc, ◌+◌, ◌<◌, ◌≤◌, Bool, true, false, List, [], ◌∷◌, ◌++◌, length, None, refl, ap, ◌∙◌, subst, arith, add-one}
+use Rattle.std.specs.Prelude.{flat_map, nat_lt, ◌&&◌, if◌then◌else◌, Option}
 use Rattle.std.specs.List.{list_any, range_with_len}
 use Rattle.std.proofs.lemmas.Bool.{ltb-false}
 use Rattle.byte_ranges.specs.declared.kept.Range.{Range}
@@ -8,12 +8,12 @@ use Rattle.byte_ranges.specs.Ranges.{has_bytes, shares_byte}
 use Rattle.asm_layout.specs.Layout.{Numbers, place}
 use Rattle.asm_source.specs.declared.fault.Fault.{Fault}
 use Rattle.asm_source.specs.declared.fault.Rule.{Rule}
-use Rattle.asm_source.specs.declared.fault.Rule.TheVariants.{OutOfRange, TooMuch}
+use Rattle.asm_source.specs.declared.fault.Rule.TheVariants.{TooMuch}
 use Rattle.asm_source.specs.declared.item.Span.{Span}
 use Rattle.asm_source.specs.declared.item.Written.{Written}
 use Rattle.asm_source.specs.Faults.{IsFirst, least}
 use Rattle.asm_source.specs.Laws.{FaultlessIsNear}
-use Rattle.asm_source.specs.Second.{fault_if, is_instruction, item_faults, kept_with, part_faults, place_of, second_faults, size_before, slot_faults, spans_from, written}
+use Rattle.asm_source.specs.Second.{fault_if, item_faults, kept_with, part_faults, place_of, second_faults, size_before, spans_from, written}
 use Rattle.asm_source.proofs.Noted.{least_is_first}
 
 no_faults : (all : List Fault) → least all ≡ None → all ≡ []
@@ -25,7 +25,7 @@ none_left : {X : Type 0} (xs ys : List X) → xs ++ ys ≡ [] → xs ≡ []
 none_left [] ys none = refl
 none_left (x ∷ xs) ys none = absurd (omega (arith, ap length none))
 
-none_right : {X : Type 0} (xs ys : List X) → xs ++ ys ≡ [] → ys ≡ []
+pub none_right : {X : Type 0} (xs ys : List X) → xs ++ ys ≡ [] → ys ≡ []
 none_right [] ys none = none
 none_right (x ∷ xs) ys none = absurd (omega (arith, ap length none))
 

@@ -1,5 +1,5 @@
 -- Contents that are put onto parts.
-use Rattle.std.proofs.Common.{◌≡◌, ℕ, ◌+◌, Bool, false, List, [], ◌∷◌, ◌++◌, refl, sym, ap, arith, append_assoc}
+use Rattle.std.proofs.Common.{◌≡◌, ℕ, ◌+◌, false, List, [], ◌∷◌, ◌++◌, refl, sym, ap, arith, append_assoc}
 use Rattle.core_regs.specs.declared.causes.Order.{Order}
 use Rattle.asm_layout.specs.Layout.{Numbers}
 use Rattle.asm_source.specs.declared.item.Item.{Item}

@@ -1,6 +1,6 @@
 -- How many bytes and parts an image has.
-use Rattle.std.proofs.Common.{◌≡◌, ℕ, zero, suc, ◌+◌, ◌-◌, ◌<◌, ◌≤◌, Bool, true, false, List, [], ◌∷◌, ◌++◌, length, map, drop, filter, get_or, replicate, Option, None, Some, refl, sym, ap, ◌∙◌, subst, inl, inr, arith, add-one, length-append}
-use Rattle.std.specs.Prelude.{flat_map, nat_lt, not, ◌||◌, if◌then◌else◌}
+use Rattle.std.proofs.Common.{◌≡◌, ℕ, zero, suc, ◌+◌, ◌-◌, ◌<◌, ◌≤◌, Bool, true, false, List, [], ◌∷◌, ◌++◌, length, drop, filter, get_or, replicate, None, Some, refl, sym, ap, ◌∙◌, inl, inr, arith, add-one, length-append}
+use Rattle.std.specs.Prelude.{nat_lt, not, ◌||◌, if◌then◌else◌}
 use Rattle.std.proofs.lemmas.Bool.{cases_Bool, lt-ltb}
 use Rattle.std.proofs.lemmas.List.{drop-drop, length-drop, length-replicate}
 use Rattle.core_regs.specs.declared.causes.Order.{Order}
@@ -12,18 +12,13 @@ use Rattle.asm_source.specs.declared.item.Item.{Item}
 use Rattle.asm_source.specs.declared.item.Item.TheVariants as item
 use Rattle.asm_source.specs.declared.item.Operand.TheVariants.{Number, Label}
 use Rattle.asm_source.specs.declared.item.Written.{Written}
-use Rattle.asm_source.specs.Faults.{least}
 use Rattle.asm_source.specs.Items.{is_short, piece_of, pieces, prefixed}
-use Rattle.asm_source.specs.Second.{is_part, items_of, place_of, second_faults, size_before, spans_from, written}
+use Rattle.asm_source.specs.Second.{is_part, items_of, place_of, size_before, spans_from, written}
 use Rattle.asm_source.specs.Laws.{FaultlessIsSmall, bytes_in}
 use Rattle.asm_source.specs.Source.{AreParts, Code, Content, Datum, Holds, Piled, bytes_of, contents, has_contents, onto, parts_from, parts_of, plain, with_value}
 use Rattle.asm_source.proofs.Faultless.{count, few_bytes, few_parts}
+use Rattle.asm_source.proofs.Lists.{either}
 use Rattle.asm_source.proofs.Piles.{not_part, onto_more, onto_none}
-
--- a property of both answers of a test
-either : {X : Type 0} (P : X → Type 0) (b : Bool) (x y : X) → P x → P y → P (if b then x else y)
-either P true x y h k = h
-either P false x y h k = k
 
 -- ---- contents
 
@@ -45,7 +40,7 @@ some_size : (c : Content) (cs : List Content) → 0 < size (c ∷ cs)
 some_size (Code i) cs = omega arith
 some_size (Datum b) cs = omega arith
 
-four_bytes : (order : Order) (w : ℕ) → length (bytes_of order 4 w) ≡ 4
+pub four_bytes : (order : Order) (w : ℕ) → length (bytes_of order 4 w) ≡ 4
 four_bytes Big w = refl
 four_bytes Little w = refl
 

@@ -1,11 +1,12 @@
 -- What stands where in the image of a source: instructions with their prefixes, and bytes.
-use Rattle.std.specs.Prelude.{◌≡◌, ℕ, ◌+◌, ◌-◌, ◌/◌, ◌%◌, ◌^◌, ◌<◌, Bool, true, false, List, [], ◌∷◌, ◌++◌, length, map, filter, replicate, nat_lt, if◌then◌else◌, Option, None, Some, ℤ, pos, negsuc, ◌-ℤ◌}
+use Rattle.std.specs.Prelude.{◌≡◌, ⊤, ℕ, ◌+◌, ◌-◌, ◌/◌, ◌%◌, ◌^◌, ◌<◌, Bool, true, false, List, [], ◌∷◌, ◌++◌, length, map, filter, replicate, nat_lt, if◌then◌else◌, Option, None, Some, ℤ, pos, negsuc, ◌-ℤ◌}
 use Rattle.byteorder.specs.Endian.{big_bytes, little_bytes}
 use Rattle.core_regs.specs.declared.causes.Order.{Order}
 use Rattle.core_regs.specs.declared.causes.Order.TheVariants.{Big, Little}
 use Rattle.op_table.specs.declared.op.Op.TheVariants as op
 use Rattle.mb_decode.specs.declared.instruction.Instr.{Instr}
-use Rattle.mb_decode.specs.Meaning.{Means}
+use Rattle.mb_decode.specs.Meaning.{Fits, Means}
+use Rattle.op_table.specs.Table.{row_for}
 use Rattle.asm_layout.specs.Growing.{IsGrown}
 use Rattle.asm_layout.specs.Layout.{Numbers, place}
 use Rattle.asm_source.specs.declared.item.Item.{Item}
@@ -63,6 +64,15 @@ contents order at (Half value) long here next = plain (bytes_of order 2 value)
 contents order at (Byte value) long here next = plain (value ∷ [])
 contents order at (Part address) long here next = []
 contents order at _ long here next = plain (replicate (next - here) 0)
+
+-- an instruction has a word, whatever half of its value stands in it
+abbrev pub IsSpelled : Instr → Option Operand → Type 0
+IsSpelled i None = Fits (row_for i.op).form i
+IsSpelled i (Some value) = (half : ℕ) → half < 2 ^ 16 → Fits (row_for i.op).form (record i { imm = half })
+
+abbrev pub HasWord : Item → Type 0
+HasWord (Instruction i value after_imm) = IsSpelled i value
+HasWord _ = ⊤
 
 -- a part: the address at which it begins, and what it holds
 pub record Piled : Type 0 where

@@ -1,3 +1,5 @@
 pub mod Commas
+pub mod Fitting
 pub mod Loops
+pub mod Telling
 pub mod Writing

@@ -1,10 +1,9 @@
 -- What is answered to a source.
-use Rattle.std.proofs.Common.{◌≡◌, ℕ, ◌+◌, ◌<◌, ◌≤◌, arith, Bool, List, [], ◌∷◌, length, map, get_or, Option, None, Some, refl, sym, ap, ◌∙◌, subst, inl, inr}
+use Rattle.std.proofs.Common.{◌≡◌, ℕ, ◌+◌, ◌<◌, ◌≤◌, arith, Bool, List, [], ◌∷◌, length, map, get_or, Option, None, Some, refl, sym, ap, ◌∙◌, subst}
 use Rattle.asm_layout.specs.declared.piece.Piece.{Piece}
 use Rattle.asm_layout.specs.Growing.{IsGrown}
 use Rattle.asm_layout.specs.Places.{AreBelow, ArePlaces, member}
 use Rattle.asm_source.specs.declared.fault.Fault.{Fault}
-use Rattle.asm_source.specs.declared.item.Item.{Item}
 use Rattle.asm_source.specs.declared.item.Written.{Written}
 use Rattle.std.specs.List.{All}
 use Rattle.std.proofs.lemmas.List.{get_or_default}

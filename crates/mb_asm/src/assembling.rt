@@ -5,6 +5,8 @@ ghost use Rattle.asm_layout.specs.Places.{ArePlaces, member};
 ghost use Rattle.asm_source.specs.declared.item.Written.{Written};
 ghost use Rattle.asm_source.specs.Items.{pieces};
 ghost use Rattle.asm_source.specs.Faults.{least};
+ghost use Rattle.asm_source.specs.Source.{HasWord};
+ghost use Rattle.std.specs.List.{All};
 ghost use Rattle.asm_source.specs.Second.{items_of, place_of, second_faults};
 ghost use Rattle.mb_asm.specs.Assembly.{Assembles, IsBuiltOf, IsLaid, entry_at};
 ghost use Rattle.mb_asm.specs.WordLines.{AreNear};
@@ -45,6 +47,7 @@ fn build(
     entry: Option<usize>,
     laid: &Laid,
 ) -> Result<Assembled, NoMemory>
+    requires spelled { All (λ (w : Written). HasWord w.item) all.now }
     requires laid { IsLaid all.now laid.now }
     requires sound { least (second_faults all.now (member laid.now.grown.items)) ≡ None }
     ensures { IfOk result (λ a. IsBuiltOf order all.now entry (member laid.now.grown.items) a) }
