@@ -2,7 +2,8 @@
 use Rattle.std.proofs.Common.{◌≡◌, ℕ, ◌<◌, List, Option, refl, sym, ap, subst, arith}
 use Rattle.board_file.specs.declared.board.BoardFile.{BoardFile}
 use Rattle.board_file.specs.declared.board.CoreRow.{CoreRow}
-use Rattle.board_run.specs.Boards.{IsBuildable, IsNew, pipe_of}
+use Rattle.board_run.specs.Boards.{IsBuildable, IsNew}
+use Rattle.exact_machine.specs.Runs.{pipe_of}
 use Rattle.board_sound.proofs.Soundness.{read_is_sound}
 use Rattle.board_sound.specs.Sound.{IsSound}
 use Rattle.timing_law.specs.Past.{fresh as fresh_past}

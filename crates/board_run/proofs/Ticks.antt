@@ -1,13 +1,20 @@
 -- What the contract of a core's tick says of the board machine.
-use Rattle.std.proofs.Common.{◌≡◌, ℕ, ◌+◌, ◌<◌, ◌≤◌, List, length, map, get_or, slice_get, Option, Some, None, refl, ap, sym, ◌∙◌, cond, inl, inr, Bool, true, false, ◌||◌, arith}
+use Rattle.std.proofs.Common.{◌≡◌, ℕ, ◌+◌, ◌<◌, ◌≤◌, List, length, map, get_or, slice_get, slice_set, Option, Some, None, refl, ap, sym, ◌∙◌, cond, inl, inr, Bool, true, false, ◌||◌, ◌&&◌, subst, arith}
 use Rattle.std.specs.Option.{option_map}
+use Rattle.std.specs.Prelude.{is_none}
 use Rattle.std.proofs.lemmas.Option.{slice_get-map, slice_get_read}
 use Rattle.core_regs.specs.declared.causes.WaitOn.{WaitOn}
 use Rattle.isa_step.specs.declared.acts.Act.{Act}
 use Rattle.isa_step.specs.declared.acts.Action.{Action}
 use Rattle.isa_step.specs.Shown.{Shown, Moves}
 use Rattle.isa_step.specs.Deeds.{View, Due, Does, Waits, Sleeps, Ends, Stops}
-use Rattle.isa_step.specs.Due.{due}
+use Rattle.core_regs.specs.State.{bare}
+use Rattle.isa_step.specs.Due.{due, here_of, take_due}
+use Rattle.prepared_act.proofs.Offers.{nothing_taken}
+use Rattle.exact_machine.specs.Machine.{ExactCore, ExactWorld, core_after, exact_step, fabric_after, is_held_at, opened, ticked, with_slack}
+use Rattle.board_machine.specs.Resting.{idle_at, idle_here}
+use Rattle.board_machine.specs.World.{acts_of}
+use Rattle.board_machine.specs.declared.events.Event.TheVariants.{Tick as TickOfCore}
 use Rattle.isa_step.specs.declared.acts.Idle.{Idle}
 use Rattle.isa_step.specs.Resting.{IsHoped, idle_due, idle_view}
 use Rattle.isa_step.proofs.RestLaws.{idle_lasts}
@@ -19,12 +26,29 @@ use Rattle.prepared_act.specs.Retiring.{is_offered}
 use Rattle.board_machine.proofs.Lines.{act_line, some_lines, waited_by}
 use Rattle.board_machine.proofs.Staying.{hoped}
 use Rattle.board_machine.specs.Fabric.{Fabric, breaks_at, or_low, shown, entered, entered_some, entries_of_action, entry_of_act, entry_of_action, is_kept, waited}
-use Rattle.board_machine.specs.World.{CoreAt, TickMay}
-use Rattle.board_run.specs.Boards.{AnswerOf, answered, core_of}
+use Rattle.board_run.specs.Boards.{AnswerOf, answered, core_of, exact_acts, exact_idle, idle_of}
 
 -- a core as the board machine sees it
-abbrev pub seen : {X : Type 0} → (X → CoreState) → X → CoreAt
+abbrev pub seen : {X : Type 0} → (X → CoreState) → X → ExactCore
 seen state x = core_of (state x)
+
+-- a core without its past
+pub opened_at : (cores : List ExactCore) (k : ℕ) (s : ExactCore) → slice_get cores k ≡ Some s → slice_get (map (with_slack 0) cores) k ≡ Some (with_slack 0 s)
+opened_at cores k s q = slice_get-map (with_slack 0) cores k ∙ ap (option_map (with_slack 0)) q
+
+idle_by : (f : Fabric) (k : ℕ) (o : Option ExactCore) → idle_here f k (option_map (with_slack 0) o) ≡ idle_of f k o
+idle_by f k None = refl
+idle_by f k (Some s) = refl
+
+pub idle_seen : (x : ExactWorld) (k : ℕ) → idle_at (opened x) k ≡ exact_idle x k
+idle_seen x k = ap (idle_here x.fabric k) (slice_get-map (with_slack 0) x.cores k) ∙ idle_by x.fabric k (slice_get x.cores k)
+
+acts_by : (o : Option ExactCore) → acts_of (option_map (with_slack 0) o) ≡ exact_acts o
+acts_by None = refl
+acts_by (Some s) = refl
+
+pub acts_seen : (cores : List ExactCore) (k : ℕ) → acts_of (slice_get (map (with_slack 0) cores) k) ≡ exact_acts (slice_get cores k)
+acts_seen cores k = ap acts_of (slice_get-map (with_slack 0) cores k) ∙ acts_by (slice_get cores k)
 
 -- a member of an element, as an element of the mapped list
 pub slice_get_mapped : {A B : Type 0} (f : A → B) (xs : List A) (i : ℕ) (x : A) → i < length xs → x ≡ get_or xs i x → slice_get (map f xs) i ≡ Some (f x)
@@ -34,15 +58,19 @@ leaves_act : {P : Type 0} (done : P → List Action) (spare : P → ℕ) (leaves
 leaves_act done spare leaves fabric core act None p q does h = ap fabric h
 leaves_act done spare leaves fabric core act (Some a) p q does h = does a h.left
 
--- the board machine's tick, with what the answer enters
-tick_of : {P : Type 0} (done : P → List Action) (spare : P → ℕ) (leaves : P → Action → P → Type 0) (fabric : P → Fabric) (core : ℕ) (d : Due) (held quiet : Bool) (answer : Tick) (old : CoreState) (p : P) (new : CoreState) (q : P) → ((a : Action) → leaves p a q → fabric q ≡ entered core old.acts (entry_of_action a) (fabric p)) → TickOf done spare leaves d held quiet answer old p new q → TickMay core d (core_of old) (fabric p) (core_of new) (answered core old.acts answer (fabric q))
-tick_of done spare leaves fabric core (Does deed) false quiet (Acted a) old p new q does h = inl (record {
-  slack = h.1.below;
-  state = ap core_of h.1.core;
+-- the core and the fabric after a tick are those of the exact machine
+pub record IsExactTick (core : ℕ) (d : Due) (held : Bool) (old : CoreState) (before : Fabric) (new : CoreState) (later : Fabric) : Type 0 where
+  pub core_is : core_of new ≡ core_after d held (core_of old)
+  pub fabric : later ≡ fabric_after core old.acts d held before
+
+-- a tick
+tick_of : {P : Type 0} (done : P → List Action) (spare : P → ℕ) (leaves : P → Action → P → Type 0) (fabric : P → Fabric) (core : ℕ) (d : Due) (held quiet : Bool) (answer : Tick) (old : CoreState) (p : P) (new : CoreState) (q : P) → ((a : Action) → leaves p a q → fabric q ≡ entered core old.acts (entry_of_action a) (fabric p)) → TickOf done spare leaves d held quiet answer old p new q → IsExactTick core d held old (fabric p) new (answered core old.acts answer (fabric q))
+tick_of done spare leaves fabric core (Does deed) false quiet (Acted a) old p new q does h = record {
+  core_is = ap core_of h.1.core;
   fabric = ap (λ a. entered_some core old.acts (entry_of_act a) (fabric q)) h.0 ∙ ap (entered_some core old.acts (entry_of_act deed.done.act)) (leaves_act done spare leaves fabric core old.acts deed.action p q does h.1.ports);
-})
+}
 tick_of done spare leaves fabric core (Does deed) true quiet (Acted a) old p new q does h = absurd h
-tick_of done spare leaves fabric core (Does deed) true quiet Filling old p new q does h = inr (record { slack = h.less; state = ap core_of h.core; fabric = ap fabric h.ports })
+tick_of done spare leaves fabric core (Does deed) true quiet Filling old p new q does h = record { core_is = ap core_of h.core; fabric = ap fabric h.ports }
 tick_of done spare leaves fabric core (Does deed) false quiet Filling old p new q does h = absurd h
 tick_of done spare leaves fabric core (Does deed) true quiet (Waiting on) old p new q does h = absurd h
 tick_of done spare leaves fabric core (Does deed) false quiet (Waiting on) old p new q does h = absurd h
@@ -54,12 +82,12 @@ tick_of done spare leaves fabric core (Does deed) true quiet (Stopped why) old p
 tick_of done spare leaves fabric core (Does deed) false quiet (Stopped why) old p new q does h = absurd h
 tick_of done spare leaves fabric core (Waits port full) true quiet (Acted a) old p new q does h = absurd h
 tick_of done spare leaves fabric core (Waits port full) false quiet (Acted a) old p new q does h = absurd h
-tick_of done spare leaves fabric core (Waits port full) true quiet Filling old p new q does h = inr (record { slack = h.less; state = ap core_of h.core; fabric = ap fabric h.ports })
+tick_of done spare leaves fabric core (Waits port full) true quiet Filling old p new q does h = record { core_is = ap core_of h.core; fabric = ap fabric h.ports }
 tick_of done spare leaves fabric core (Waits port full) false quiet Filling old p new q does h = absurd h
-tick_of done spare leaves fabric core (Waits port full) false quiet (Waiting on) old p new q does h = inl (record {
-  state = ap core_of h.1.core;
+tick_of done spare leaves fabric core (Waits port full) false quiet (Waiting on) old p new q does h = record {
+  core_is = ap core_of h.1.core;
   fabric = ap (λ on. waited core old.acts on (fabric q)) h.0 ∙ ap (λ q. waited core old.acts (record { port = port; full = full }) (fabric q)) h.1.ports;
-})
+}
 tick_of done spare leaves fabric core (Waits port full) true quiet (Waiting on) old p new q does h = absurd h
 tick_of done spare leaves fabric core (Waits port full) true quiet Sleeping old p new q does h = absurd h
 tick_of done spare leaves fabric core (Waits port full) false quiet Sleeping old p new q does h = absurd h
@@ -74,8 +102,8 @@ tick_of done spare leaves fabric core Sleeps held false Filling old p new q does
 tick_of done spare leaves fabric core Sleeps held true (Waiting on) old p new q does h = absurd h
 tick_of done spare leaves fabric core Sleeps held false (Waiting on) old p new q does h = absurd h
 tick_of done spare leaves fabric core Sleeps held true Sleeping old p new q does h = absurd h
-tick_of done spare leaves fabric core Sleeps held false Sleeping old p new q does h = record { state = ap core_of h.core; fabric = ap fabric h.ports }
-tick_of done spare leaves fabric core Sleeps held true Ended old p new q does h = record { state = ap core_of h.core; fabric = ap fabric h.ports }
+tick_of done spare leaves fabric core Sleeps held false Sleeping old p new q does h = record { core_is = ap core_of h.core; fabric = ap fabric h.ports }
+tick_of done spare leaves fabric core Sleeps held true Ended old p new q does h = record { core_is = ap core_of h.core; fabric = ap fabric h.ports }
 tick_of done spare leaves fabric core Sleeps held false Ended old p new q does h = absurd h
 tick_of done spare leaves fabric core Sleeps held true (Stopped why) old p new q does h = absurd h
 tick_of done spare leaves fabric core Sleeps held false (Stopped why) old p new q does h = absurd h
@@ -83,17 +111,21 @@ tick_of done spare leaves fabric core Ends held quiet (Acted a) old p new q does
 tick_of done spare leaves fabric core Ends held quiet Filling old p new q does h = absurd h
 tick_of done spare leaves fabric core Ends held quiet (Waiting on) old p new q does h = absurd h
 tick_of done spare leaves fabric core Ends held quiet Sleeping old p new q does h = absurd h
-tick_of done spare leaves fabric core Ends held quiet Ended old p new q does h = record { state = ap core_of h.core; fabric = ap fabric h.ports }
+tick_of done spare leaves fabric core Ends held quiet Ended old p new q does h = record { core_is = ap core_of h.core; fabric = ap fabric h.ports }
 tick_of done spare leaves fabric core Ends held quiet (Stopped why) old p new q does h = absurd h
 tick_of done spare leaves fabric core (Stops cause) held quiet (Acted a) old p new q does h = absurd h
 tick_of done spare leaves fabric core (Stops cause) held quiet Filling old p new q does h = absurd h
 tick_of done spare leaves fabric core (Stops cause) held quiet (Waiting on) old p new q does h = absurd h
 tick_of done spare leaves fabric core (Stops cause) held quiet Sleeping old p new q does h = absurd h
 tick_of done spare leaves fabric core (Stops cause) held quiet Ended old p new q does h = absurd h
-tick_of done spare leaves fabric core (Stops cause) held quiet (Stopped why) old p new q does h = record { state = ap core_of h.1.core; fabric = ap fabric h.1.ports }
+tick_of done spare leaves fabric core (Stops cause) held quiet (Stopped why) old p new q does h = record { core_is = ap core_of h.1.core; fabric = ap fabric h.1.ports }
 
-pub tick_may : {P : Type 0} {done : P → List Action} {spare : P → ℕ} {leaves : P → Action → P → Type 0} {shown : Shown} {answer : Tick} {old new : CoreState} {p q : P} (fabric : P → Fabric) (core : ℕ) → ((a : Action) → leaves p a q → fabric q ≡ entered core old.acts (entry_of_action a) (fabric p)) → Ticks done spare leaves shown answer old p new q → TickMay core (due old.view shown) (core_of old) (fabric p) (core_of new) (answered core old.acts answer (fabric q))
-tick_may {done = done} {spare = spare} {leaves = leaves} {shown = shown} {answer = answer} {old = old} {new = new} {p = p} {q = q} fabric core does h = tick_of done spare leaves fabric core (due old.view shown) (is_held old shown) (is_view_quiet old.view shown) answer old p new q does h.does
+
+
+pub tick_exact : {P : Type 0} {done : P → List Action} {spare : P → ℕ} {leaves : P → Action → P → Type 0} {shown : Shown} {answer : Tick} {old new : CoreState} {p q : P} (fabric : P → Fabric) (core : ℕ)
+    → ((a : Action) → leaves p a q → fabric q ≡ entered core old.acts (entry_of_action a) (fabric p)) → Ticks done spare leaves shown answer old p new q
+    → IsExactTick core (due old.view shown) (is_held old shown) old (fabric p) new (answered core old.acts answer (fabric q))
+tick_exact {done = done} {spare = spare} {leaves = leaves} {shown = shown} {answer = answer} {old = old} {new = new} {p = p} {q = q} fabric core does h = tick_of done spare leaves fabric core (due old.view shown) (is_held old shown) (is_view_quiet old.view shown) answer old p new q does h.does
 
 -- a tick makes one action at the ports at most
 moves_once : {P : Type 0} (done : P → List Action) (spare : P → ℕ) (leaves : P → Action → P → Type 0) (o : Option Action) (p q : P) → Moves done spare leaves p o q → spare p ≤ spare q + 1
@@ -221,10 +253,10 @@ answered_lines core act Ended f = refl
 answered_lines core act (Stopped why) f = refl
 
 -- the answer of a tick says what was due, and whether it was done
-answer_of : {P : Type 0} (done : P → List Action) (spare : P → ℕ) (leaves : P → Action → P → Type 0) (d : Due) (held quiet : Bool) (answer : Tick) (old : CoreState) (p : P) (new : CoreState) (q : P) → TickOf done spare leaves d held quiet answer old p new q → AnswerOf d quiet answer (core_of old) (core_of new)
-answer_of done spare leaves (Does deed) false quiet (Acted a) old p new q h = (h.0, ap (λ (s : CoreState). s.acts) h.1.core)
+answer_of : {P : Type 0} (done : P → List Action) (spare : P → ℕ) (leaves : P → Action → P → Type 0) (d : Due) (held quiet : Bool) (answer : Tick) (old : CoreState) (p : P) (new : CoreState) (q : P) → TickOf done spare leaves d held quiet answer old p new q → AnswerOf d held quiet answer
+answer_of done spare leaves (Does deed) false quiet (Acted a) old p new q h = h.0
 answer_of done spare leaves (Does deed) true quiet (Acted a) old p new q h = absurd h
-answer_of done spare leaves (Does deed) true quiet Filling old p new q h = (h.less, ap (λ (s : CoreState). s.acts) h.core)
+answer_of done spare leaves (Does deed) true quiet Filling old p new q h = tt
 answer_of done spare leaves (Does deed) false quiet Filling old p new q h = absurd h
 answer_of done spare leaves (Does deed) true quiet (Waiting on) old p new q h = absurd h
 answer_of done spare leaves (Does deed) false quiet (Waiting on) old p new q h = absurd h
@@ -236,9 +268,9 @@ answer_of done spare leaves (Does deed) true quiet (Stopped why) old p new q h =
 answer_of done spare leaves (Does deed) false quiet (Stopped why) old p new q h = absurd h
 answer_of done spare leaves (Waits port full) true quiet (Acted a) old p new q h = absurd h
 answer_of done spare leaves (Waits port full) false quiet (Acted a) old p new q h = absurd h
-answer_of done spare leaves (Waits port full) true quiet Filling old p new q h = h.less
+answer_of done spare leaves (Waits port full) true quiet Filling old p new q h = tt
 answer_of done spare leaves (Waits port full) false quiet Filling old p new q h = absurd h
-answer_of done spare leaves (Waits port full) false quiet (Waiting on) old p new q h = (h.0, ap (λ (s : CoreState). s.slack) h.1.core)
+answer_of done spare leaves (Waits port full) false quiet (Waiting on) old p new q h = h.0
 answer_of done spare leaves (Waits port full) true quiet (Waiting on) old p new q h = absurd h
 answer_of done spare leaves (Waits port full) true quiet Sleeping old p new q h = absurd h
 answer_of done spare leaves (Waits port full) false quiet Sleeping old p new q h = absurd h
@@ -271,25 +303,42 @@ answer_of done spare leaves (Stops cause) held quiet Sleeping old p new q h = ab
 answer_of done spare leaves (Stops cause) held quiet Ended old p new q h = absurd h
 answer_of done spare leaves (Stops cause) held quiet (Stopped why) old p new q h = h.0
 
-pub tick_says : {P : Type 0} {done : P → List Action} {spare : P → ℕ} {leaves : P → Action → P → Type 0} {shown : Shown} {answer : Tick} {old new : CoreState} {p q : P} → Ticks done spare leaves shown answer old p new q → AnswerOf (due old.view shown) (is_view_quiet old.view shown) answer (core_of old) (core_of new)
+pub tick_says : {P : Type 0} {done : P → List Action} {spare : P → ℕ} {leaves : P → Action → P → Type 0} {shown : Shown} {answer : Tick} {old new : CoreState} {p q : P} → Ticks done spare leaves shown answer old p new q → AnswerOf (due old.view shown) (is_held old shown) (is_view_quiet old.view shown) answer
 tick_says {done = done} {spare = spare} {leaves = leaves} {shown = shown} {answer = answer} {old = old} {new = new} {p = p} {q = q} h = answer_of done spare leaves (due old.view shown) (is_held old shown) (is_view_quiet old.view shown) answer old p new q h.does
 
--- what is done at once is a tick of the board machine, and leaves the fabric
-alone_of : (core : ℕ) (d : Due) (early : Bool) (old new : CoreState) (f : Fabric) → AloneOf d early old new → TickMay core d (core_of old) f (core_of new) f
-alone_of core (Does deed) false old new f h = inl (record {
-  slack = h.2;
-  state = ap core_of h.3;
+-- so a world whose core does it makes the exact step
+pub stepped : (x : ExactWorld) (core : ℕ) (was is : ExactCore) (later : Fabric) {cores : List ExactCore} → slice_get x.cores core ≡ Some was → is ≡ core_after (due was.view (shown x.fabric core)) (is_held_at was (shown x.fabric core)) was
+    → later ≡ fabric_after core was.acts (due was.view (shown x.fabric core)) (is_held_at was (shown x.fabric core)) x.fabric → cores ≡ slice_set x.cores core is → record { schedule = x.schedule; cores = cores; fabric = later } ≡ exact_step x (TickOfCore core)
+stepped x core was is later at e f c =
+    (λ i. record { schedule = x.schedule; cores = (c ∙ ap (slice_set x.cores core) e) i; fabric = f i }) ∙ ap (λ o. ticked core o x) (sym at)
+
+-- what is done at once
+early_of : (core : ℕ) (d : Due) (old new : CoreState) (f : Fabric) → AloneOf d true old new → IsExactTick core d true old f new f
+early_of core (Does deed) old new f h = record { core_is = ap core_of h.1; fabric = refl }
+early_of core (Waits port full) old new f h = absurd h
+early_of core Sleeps old new f h = absurd h
+early_of core Ends old new f h = absurd h
+early_of core (Stops cause) old new f h = absurd h
+
+due_of : (core : ℕ) (d : Due) (old new : CoreState) (f : Fabric) → AloneOf d false old new → IsExactTick core d false old f new f
+due_of core (Does deed) old new f h = record {
+  core_is = ap core_of h.3;
   fabric = sym (ap (λ (a : Act). entered_some core old.acts (entry_of_act a) (entered_some core old.acts (entries_of_action deed.action) f)) h.1
       ∙ ap (λ (o : Option Action). entered_some core old.acts (entries_of_action o) f) h.0);
-})
-alone_of core (Does deed) true old new f h = inr (record { slack = h.0; state = ap core_of h.1; fabric = refl })
-alone_of core (Waits port full) early old new f h = absurd h
-alone_of core Sleeps early old new f h = absurd h
-alone_of core Ends early old new f h = absurd h
-alone_of core (Stops cause) early old new f h = absurd h
+}
+due_of core (Waits port full) old new f h = absurd h
+due_of core Sleeps old new f h = absurd h
+due_of core Ends old new f h = absurd h
+due_of core (Stops cause) old new f h = absurd h
 
-pub alone_may : {old new : CoreState} (core : ℕ) (s : Shown) (f : Fabric) → TicksAlone old new → is_offered s ≡ false → TickMay core (due old.view s) (core_of old) f (core_of new) f
-alone_may {old = old} {new = new} core s f h calm = alone_of core (due old.view s) (is_early old) old new f (h.does s calm)
+alone_of : (core : ℕ) (d : Due) (held early : Bool) (old new : CoreState) (f : Fabric) → held ≡ early → AloneOf d early old new → IsExactTick core d held old f new f
+alone_of core d held true old new f e h = subst (λ held. IsExactTick core d held old f new f) (sym e) (early_of core d old new f h)
+alone_of core d held false old new f e h = subst (λ held. IsExactTick core d held old f new f) (sym e) (due_of core d old new f h)
+
+pub ticks_alone : (core : ℕ) (shown : Shown) (f : Fabric) (old new : CoreState) → TicksAlone old new → is_offered shown ≡ false → IsExactTick core (due old.view shown) (is_held old shown) old f new f
+ticks_alone core shown f old new h calm =
+    let none = ap (λ (t : Option _). is_none t && is_early old) (nothing_taken (here_of old.view) (bare old.view.arch) shown calm) in
+    alone_of core (due old.view shown) (is_held old shown) (is_early old) old new f none (h.does shown calm)
 
 -- and the core is busy there
 

@@ -3,6 +3,10 @@ use Rattle.std.specs.Prelude.{◌≡◌, ℕ, ◌+◌, List, Some, slice_get}
 use Rattle.isa_step.specs.Deeds.{View}
 use Rattle.board_file.specs.declared.board.BoardFile.{BoardFile}
 use Rattle.board_machine.specs.World.{CoreAt, Inputs, Reached, World}
+use Rattle.board_machine.specs.Runs.{KeepsRest, KeepsRuns}
+use Rattle.exact_machine.specs.Machine.{ExactWorld}
+use Rattle.exact_machine.specs.Opening.{IsOpen}
+use Rattle.net_law.specs.Law.{KeepsNetwork}
 use Rattle.journal_laws.specs.LinkLaw.{LinkLaw}
 use Rattle.journal_laws.specs.TakeLaw.{TakeLaw}
 use Rattle.journal_laws.specs.Laws.{HasLaws as HasRunLaws, KeepsPace, RanCycles}
@@ -30,3 +34,11 @@ abbrev pub KeepsProgress : World → World → Type 0
 KeepsProgress old new =
     (b : BoardFile) (views : List View) (inputs : Inputs) (cycles : ℕ) → RanCycles b views inputs cycles old
     → (more : ℕ) × HasProgress b views inputs (cycles + more) new
+
+-- whatever state of the open machine the old one stands for, the new one stands for one to which the call led
+abbrev pub InOpen : (World → World → Type 0) → ExactWorld → ExactWorld → Type 0
+InOpen P old new = (w : World) → IsOpen old w → (v : World) × IsOpen new v × P w v
+
+-- there the call keeps what is told of runs, the laws of journals, the network law, and rest
+abbrev pub KeepsAll : World → World → Type 0
+KeepsAll w v = KeepsRuns w v × KeepsLaws w v × KeepsNetwork w v × KeepsRest w v

@@ -62,7 +62,7 @@ turns_there s cycle (suc k) l =
     all_append (IsThere (length s.clocks)) (turns s cycle k) (turn_of s cycle k) (turns_there s cycle k (omega (arith, l)))
     (where_there (length s.clocks) (core_of_turn s cycle k) (divides (slice_get s.clocks (core_of_turn s cycle k)) cycle) (apart.there s cycle k (omega (arith, l))))
 
-events_there : (s : Schedule) (cycle : ℕ) → AllByRecursion (IsThere (length s.clocks)) (events_of s cycle)
+pub events_there : (s : Schedule) (cycle : ℕ) → AllByRecursion (IsThere (length s.clocks)) (events_of s cycle)
 events_there s cycle = (tt, (tt, all_append (IsThere (length s.clocks)) (turns s cycle (length s.clocks)) (Next ∷ []) (turns_there s cycle (length s.clocks) (omega arith)) (tt, tt)))
 
 -- a cycle

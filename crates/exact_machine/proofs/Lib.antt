@@ -8,3 +8,4 @@ pub mod Names
 pub mod Times
 pub mod Journals
 pub mod Joins
+pub mod Turning

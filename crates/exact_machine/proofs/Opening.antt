@@ -9,9 +9,9 @@ use Rattle.isa_step.specs.Due.{due, here_of}
 use Rattle.timing_law.specs.Passing.{instr_of, jump_of, past_after}
 use Rattle.board_machine.specs.declared.events.Event.{Event}
 use Rattle.board_machine.specs.declared.events.Event.TheVariants.{Devices, Host, Tick, Next}
-use Rattle.board_machine.specs.DeviceMoves.{devices_moved, in_order, latched}
-use Rattle.board_machine.specs.Fabric.{Fabric, breaks_come, shown}
-use Rattle.board_machine.specs.World.{CoreAt, IsThere, Step, TickMay, World, acts_of, devices_done, line_latched}
+use Rattle.board_machine.specs.Fabric.{Fabric, shown}
+use Rattle.board_machine.specs.World.{CoreAt, IsThere, Step, TickMay, World, acts_of, devices_done}
+use Rattle.board_machine.proofs.Alone.{acts_alone}
 use Rattle.board_machine.proofs.Lists.{and_right, slice_get_in}
 use Rattle.exact_machine.specs.Machine.{ExactCore, ExactWorld, acted, core_after, exact_step, exact_steps, fabric_after, is_held_at, passed, ticked, with_slack}
 use Rattle.exact_machine.specs.Opening.{AreOpen, IsOpen, IsOpenCore, due_of}
@@ -144,17 +144,9 @@ tick_there x ss core c s h q o =
       is_open = record { schedule = refl; cores = open_set x.cores ss core (core_after d held c) t.is h t.is_open; fabric = refl };
     }
 
-latched_same : (xs : List ExactCore) (ss : List CoreAt) (n : ℕ) (f : Fabric) → AreOpen xs ss → in_order (line_latched ss) n f ≡ in_order (line_latched (map (with_slack 0) xs)) n f
-latched_same xs ss zero f h = refl
-latched_same xs ss (suc n) f h =
-    ap (line_latched ss n) (latched_same xs ss n f h)
-    ∙ seen_same (λ o. latched n (acts_of o) (in_order (line_latched (map (with_slack 0) xs)) n f)) (λ s slack. refl) xs ss n h
-
 devices_same : (xs : List ExactCore) (ss : List CoreAt) (f : Fabric) → AreOpen xs ss → devices_done ss f ≡ devices_done (map (with_slack 0) xs) f
-unfolding devices_done
 devices_same xs ss f h =
-    ap (λ n. in_order (line_latched ss) n (devices_moved (breaks_come f))) (same_length xs ss h ∙ sym (length-map xs (with_slack 0)))
-    ∙ latched_same xs ss (length (map (with_slack 0) xs)) (devices_moved (breaks_come f)) h
+    acts_alone ss (map (with_slack 0) xs) f (same_length xs ss h ∙ sym (length-map xs (with_slack 0))) (λ k. seen_same acts_of (λ s slack. refl) xs ss k h)
 
 step_at : (x : ExactWorld) (ss : List CoreAt) (e : Event) → AreOpen x.cores ss → IsThere (length x.cores) e → OpenStep (with_cores x ss) e (exact_step x e)
 step_at x ss Devices h l = record { next = _; step = refl; is_open = record { schedule = refl; cores = h; fabric = devices_same x.cores ss x.fabric h } }

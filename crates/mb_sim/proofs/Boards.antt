@@ -11,14 +11,12 @@ use Rattle.host_io.specs.declared.faults.StoreFault.{StoreFault}
 use Rattle.run_journal.specs.declared.entry.Entry.{Entry}
 use Rattle.board_file.specs.declared.board.BoardFile.{BoardFile}
 use Rattle.board_machine.specs.declared.events.RunEnd.{RunEnd}
-use Rattle.board_machine.specs.declared.events.Event.{Event}
-use Rattle.board_machine.specs.Cycles.{RunsTo}
-use Rattle.board_machine.specs.World.{CoreAt, Inputs, Reached, Start, Steps, World}
-use Rattle.board_machine.specs.Runs.{IsRunFrom, KeepsRuns}
-use Rattle.board_run.proofs.LawsKept.{has_laws, has_progress}
-use Rattle.net_law.proofs.Files.{follows_network}
+use Rattle.board_machine.specs.World.{Inputs}
+use Rattle.exact_machine.specs.Machine.{ExactWorld}
+use Rattle.exact_machine.specs.Runs.{ExactRun, exact_start}
+use Rattle.board_run.specs.Runs.{IsRunOf}
+use Rattle.board_run.proofs.WholeRuns.{run_of}
 use Rattle.network_jobs.proofs.Jobs.{jobs_follow}
-use Rattle.board_machine.proofs.Lasting.{step_kept}
 use Rattle.host_io.specs.Outside.{CountsWriteFault}
 use Rattle.host_io.specs.declared.faults.StoreFault.TheVariants as store
 use Rattle.board_file.specs.declared.board.CoreRow.{CoreRow}
@@ -29,7 +27,7 @@ use Rattle.board_machine.specs.declared.events.Rest.TheVariants as rest
 use Rattle.board_machine.specs.declared.events.RunEnd.TheVariants as end
 use Rattle.board_sound.proofs.Distinct.{no_output}
 use Rattle.board_sound.proofs.Soundness.{read_is_sound}
-use Rattle.board_load.specs.Jobs.{IsJobOf}
+use Rattle.board_load.specs.Jobs.{AreCoresOf, IsJobOf}
 use Rattle.board_load.specs.Named.{core_names, end_names, input_names, link_names, names_file, names_journal, uart_names}
 use Rattle.board_sound.specs.Sound.{output_files}
 use Rattle.host_io.specs.declared.faults.ShelfFaults.{ShelfFaults}
@@ -46,14 +44,14 @@ use Rattle.mb_sim.specs.declared.status.Status.{Status}
 use Rattle.mb_sim.specs.declared.run.RunWords.{RunWords}
 use Rattle.mb_sim.specs.Board.{HasRun, Names, Plays, Prints, Puts, PutsOut, Says, all_out, all_written, ends_of, file_refused, file_stops, printed, report_of, report_refused, report_stops, status_of_sink, stopped, store_of}
 use Rattle.mb_sim.specs.Top.{CountsLoads, CountsWrites}
-use Rattle.mb_sim.specs.Runs.{IsRunOf, code_of, status_of}
+use Rattle.mb_sim.specs.Runs.{code_of, status_of}
 
-pub report_is : (board : BoardFile) (last : World) (how : RunEnd) (entries : List Entry) (code cycles : ℕ) → entries ≡ last.fabric.journal → code ≡ code_of (status_of how) → cycles ≡ last.fabric.cycle
+pub report_is : (board : BoardFile) (last : ExactWorld) (how : RunEnd) (entries : List Entry) (code cycles : ℕ) → entries ≡ last.fabric.journal → code ≡ code_of (status_of how) → cycles ≡ last.fabric.cycle
     → report_text board (ends_of last) entries code cycles ≡ report_of board last how
 report_is board last how entries code cycles e c n =
     ap (λ es. report_text board (ends_of last) es code cycles) e ∙ ap (λ c. report_text board (ends_of last) last.fabric.journal c cycles) c ∙ ap (report_text board (ends_of last) last.fabric.journal (code_of (status_of how))) n
 
-pub outputs_are : (board : BoardFile) (last : World) (entries : List Entry) (journal : Option (List ℕ)) (shelf shelf' : ShelfState) (result : Result ⊤ OutputFault) → entries ≡ last.fabric.journal
+pub outputs_are : (board : BoardFile) (last : ExactWorld) (entries : List Entry) (journal : Option (List ℕ)) (shelf shelf' : ShelfState) (result : Result ⊤ OutputFault) → entries ≡ last.fabric.journal
     → WroteOutputs shelf shelf' (outputs_of board entries journal) result → WroteOutputs shelf shelf' (outputs_of board last.fabric.journal journal) result
 outputs_are board last entries journal shelf shelf' result e w = let P : List Entry → Type 0 = λ es. WroteOutputs shelf shelf' (outputs_of board es journal) result in subst P e w
 
@@ -63,34 +61,17 @@ built P (Ok b) a is h = subst P (sym (ap (λ o. unwrap_or o a) is)) h
 built P (Err e) a is h = cc
 
 -- the files, and then the report
-pub prints_out : (journal : Option (List ℕ)) (board : BoardFile) (last : World) (how : RunEnd) (shelf shelf' : ShelfState) (out out' : SinkState) (status : Status)
+pub prints_out : (journal : Option (List ℕ)) (board : BoardFile) (last : ExactWorld) (how : RunEnd) (shelf shelf' : ShelfState) (out out' : SinkState) (status : Status)
     → WroteOutputs shelf shelf' (outputs_of board last.fabric.journal journal) (Ok tt) → Prints board last how out out' status → PutsOut journal board last how shelf shelf' out out' status
 prints_out journal board last how shelf shelf' out out' status w (printed a) = all_out w a
 prints_out journal board last how shelf shelf' out out' status w (stopped fault a) = report_stops fault w a
 
--- a run from a board's beginning tells each core's view
-pub run_of : (b : BoardFile) (views : List View) (inputs : Inputs) (entries limit : ℕ) (first last : World) (how : RunEnd) → Start b views inputs first → first.fabric.spare ≡ entries
-    → RunsTo limit first last how → KeepsRuns first last → IsRunOf b views inputs entries limit last how
-run_of b views inputs entries limit first last how began room ran keeps =
-    let is_run : IsRunFrom b views inputs last = keeps b views inputs (record { first = first; events = []; began = began; ran = refl }) in
-    record {
-      first = first;
-      began = began;
-      room = room;
-      ran = ran;
-      told = is_run.told;
-      laws = has_laws b views inputs last is_run.reached;
-      progress = (ran.count, has_progress b views inputs ran.count last (record { first = first; began = began; ran = ran.cycles }));
-      network = λ is. follows_network b views inputs last is is_run.reached;
-    }
-
--- a run keeps the number of cores
-steps_cores : (w v : World) (es : List Event) → Steps w es v → length v.cores ≡ length w.cores
-steps_cores w v [] h = ap (λ (x : World). length x.cores) h
-steps_cores w v (e ∷ es) h = steps_cores h.0 v es h.2 ∙ (step_kept w h.0 e h.1).cores
-
-pub run_cores : (limit : ℕ) (first last : World) (how : RunEnd) → RunsTo limit first last how → length last.cores ≡ length first.cores
-run_cores limit first last how r = steps_cores first last _ r.cycles
+-- there is a view for each core
+loaded_count : (files : Option Files) (network : Bool) (rows : List CoreRow) (views : List View) → AreCoresOf files network rows views → length views ≡ length rows
+loaded_count files network [] [] h = refl
+loaded_count files network [] (view ∷ views) h = absurd h
+loaded_count files network (row ∷ rows) [] h = absurd h
+loaded_count files network (row ∷ rows) (view ∷ views) h = ap suc (loaded_count files network rows views h.1)
 
 -- the journal's file is no output of the board
 
@@ -134,31 +115,34 @@ apart files file journal board views inputs entries job =
 
 -- what was written
 
-put_out_to : (words : RunWords) (board : BoardFile) (last : World) (shelf shelf' : ShelfState) (result : Result ⊤ StoreFault) → AreApart (outputs_of board last.fabric.journal words.journal)
+put_out_to : (words : RunWords) (board : BoardFile) (last : ExactWorld) (shelf shelf' : ShelfState) (result : Result ⊤ StoreFault) → AreApart (outputs_of board last.fabric.journal words.journal)
     → WroteAll shelf shelf' (outputs_of board last.fabric.journal words.journal) result → Puts words board last shelf shelf' result
 put_out_to words board last shelf shelf' result a w = record { in_order = w; places = tells shelf shelf' (outputs_of board last.fabric.journal words.journal) result a w }
 
-says_puts : (words : RunWords) (shelf shelf' : ShelfState) (out out' : SinkState) (status : Status) (board : BoardFile) (last : World) (how : RunEnd) → HasRun words shelf.files board last how
+says_puts : (words : RunWords) (shelf shelf' : ShelfState) (out out' : SinkState) (status : Status) (board : BoardFile) (last : ExactWorld) (how : RunEnd) → HasRun words shelf.files board last how
     → AreApart (outputs_of board last.fabric.journal words.journal) → PutsOut words.journal board last how shelf shelf' out out' status → Says words shelf shelf' out out' status
 says_puts words shelf shelf' out out' status board last how has a (all_out w p) = all_written board last how has (put_out_to words board last shelf shelf' (Ok tt) a w) p
 says_puts words shelf shelf' out out' status board last how has a (file_stops (output.Failed file) w e) = file_refused board last how (output.Failed file) has (put_out_to words board last shelf shelf' (Err store.Failed) a w.0) w.1 e
 says_puts words shelf shelf' out out' status board last how has a (file_stops output.NoMemory w e) = file_refused board last how output.NoMemory has (put_out_to words board last shelf shelf' (Err store.NoMemory) a w) tt e
 says_puts words shelf shelf' out out' status board last how has a (report_stops fault w p) = report_refused board last how fault has (put_out_to words board last shelf shelf' (Ok tt) a w) p
 
-pub says_played : (words : RunWords) (shelf mid shelf' : ShelfState) (out out' : SinkState) (status : Status) (board file : BoardFile) (views : List View) (inputs : Inputs) (first : World)
-    → IsJobOf shelf.files words.file words.journal board views inputs → file ≡ board → Start board views inputs first → first.fabric.spare ≡ words.entries → mid ≡ shelf
+pub says_played : (words : RunWords) (shelf mid shelf' : ShelfState) (out out' : SinkState) (status : Status) (board file : BoardFile) (views : List View) (inputs : Inputs) (first : ExactWorld)
+    → IsJobOf shelf.files words.file words.journal board views inputs → file ≡ board → first ≡ exact_start board views inputs words.entries → mid ≡ shelf
     → Plays words file first mid shelf' out out' status → Says words shelf shelf' out out' status
-says_played words shelf mid shelf' out out' status board file views inputs first job same began room quiet p =
+says_played words shelf mid shelf' out out' status board file views inputs first job same began quiet p =
     let P : BoardFile → Type 0 = λ b. PutsOut words.journal b p.last p.how mid shelf' out out' status in
     let Q : ShelfState → Type 0 = λ s. PutsOut words.journal board p.last p.how s shelf' out out' status in
+    let R : ExactWorld → Type 0 = λ x. ExactRun words.cycles x p.last p.how in
+    let ran : IsRunOf board views inputs words.entries words.cycles p.last p.how =
+        run_of board views inputs words.entries words.cycles p.last p.how (loaded_count shelf.files board.network board.cores views job.has_cores) (subst R began p.ran) in
     says_puts words shelf shelf' out out' status board p.last p.how
     (record {
       views = views;
       inputs = inputs;
       job = job;
-      ran = run_of board views inputs words.entries words.cycles first p.last p.how began room p.ran p.keeps;
-      network = λ is. jobs_follow.follows shelf.files board views inputs p.last
-          (record { file = words.file; journal = words.journal; job = job; network = is; first = first; began = began; count = p.ran.count; ran = p.ran.cycles });
+      ran = ran;
+      network = λ is. jobs_follow.follows shelf.files board views inputs ran.open
+          (record { file = words.file; journal = words.journal; job = job; network = is; first = ran.is_run.first; began = ran.is_run.began; count = ran.is_run.ran.count; ran = ran.is_run.ran.cycles });
     })
     (apart shelf.files words.file words.journal board views inputs p.last.fabric.journal job) (subst Q quiet (subst P same p.puts))
 
@@ -194,7 +178,7 @@ ended_writes (end.Rest rest.Stopped) before now e = e
 ended_writes end.CyclesSpent before now e = e
 ended_writes end.JournalFull before now e = e
 
-pub puts_loads : (journal : Option (List ℕ)) (board : BoardFile) (last : World) (how : RunEnd) (shelf shelf' : ShelfState) (out out' : SinkState) (status : Status) → PutsOut journal board last how shelf shelf' out out' status
+pub puts_loads : (journal : Option (List ℕ)) (board : BoardFile) (last : ExactWorld) (how : RunEnd) (shelf shelf' : ShelfState) (out out' : SinkState) (status : Status) → PutsOut journal board last how shelf shelf' out out' status
     → CountsLoads shelf.faults.load_faults shelf'.faults.load_faults status
 puts_loads journal board last how shelf shelf' out out' status (all_out w p) = ended_loads how shelf.faults.load_faults shelf'.faults.load_faults (ap (λ (f : ShelfFaults). f.load_faults) (wrote_quiet shelf shelf' _ w))
 puts_loads journal board last how shelf shelf' out out' status (file_stops (output.Failed file) w e) = wrote_loads shelf shelf' _ store.Failed w.0
@@ -202,7 +186,7 @@ puts_loads journal board last how shelf shelf' out out' status (file_stops outpu
 puts_loads journal board last how shelf shelf' out out' status (report_stops store.Failed w p) = ap (λ (f : ShelfFaults). f.load_faults) (wrote_quiet shelf shelf' _ w)
 puts_loads journal board last how shelf shelf' out out' status (report_stops store.NoMemory w p) = ap (λ (f : ShelfFaults). f.load_faults) (wrote_quiet shelf shelf' _ w)
 
-pub puts_writes : (journal : Option (List ℕ)) (board : BoardFile) (last : World) (how : RunEnd) (shelf shelf' : ShelfState) (out out' : SinkState) (status : Status) → PutsOut journal board last how shelf shelf' out out' status
+pub puts_writes : (journal : Option (List ℕ)) (board : BoardFile) (last : ExactWorld) (how : RunEnd) (shelf shelf' : ShelfState) (out out' : SinkState) (status : Status) → PutsOut journal board last how shelf shelf' out out' status
     → CountsWrites out.faults out'.faults status
 puts_writes journal board last how shelf shelf' out out' status (all_out w p) = ended_writes how out.faults out'.faults p.1
 puts_writes journal board last how shelf shelf' out out' status (file_stops (output.Failed file) w e) = tt
@@ -210,7 +194,7 @@ puts_writes journal board last how shelf shelf' out out' status (file_stops outp
 puts_writes journal board last how shelf shelf' out out' status (report_stops store.Failed w p) = tt
 puts_writes journal board last how shelf shelf' out out' status (report_stops store.NoMemory w p) = p.1
 
-pub puts_stores : (journal : Option (List ℕ)) (board : BoardFile) (last : World) (how : RunEnd) (shelf shelf' : ShelfState) (out out' : SinkState) (status : Status) → PutsOut journal board last how shelf shelf' out out' status
+pub puts_stores : (journal : Option (List ℕ)) (board : BoardFile) (last : ExactWorld) (how : RunEnd) (shelf shelf' : ShelfState) (out out' : SinkState) (status : Status) → PutsOut journal board last how shelf shelf' out out' status
     → CountsWrites shelf.faults.write_faults shelf'.faults.write_faults status
 puts_stores journal board last how shelf shelf' out out' status (all_out w p) = ended_writes how shelf.faults.write_faults shelf'.faults.write_faults (ap (λ (f : ShelfFaults). f.write_faults) (wrote_quiet shelf shelf' _ w))
 puts_stores journal board last how shelf shelf' out out' status (file_stops (output.Failed file) w e) = tt

@@ -6,7 +6,7 @@ use Rattle.host_io.specs.declared.faults.StoreFault.TheVariants as store
 use Rattle.board_machine.specs.declared.events.RunEnd.{RunEnd}
 use Rattle.board_machine.specs.declared.events.RunEnd.TheVariants as end
 use Rattle.board_machine.specs.declared.events.Rest.TheVariants as rest
-use Rattle.board_machine.specs.World.{World}
+use Rattle.exact_machine.specs.Machine.{ExactWorld}
 use Rattle.command_words.specs.declared.command.Command.{Command}
 use Rattle.command_words.specs.declared.command.Command.TheVariants.{Asm, Demo, Dis, Raw, Run}
 use Rattle.mb_sim.specs.declared.status.Status.{Status}
@@ -65,7 +65,7 @@ completes o file image cycles shelf shelf' out out' s says is fair within =
     runs job image shelf shelf' out out' s fair within (subst P is says).says
 
 -- no run is told of a file that is too long
-not_within : (job : RawJob) (image : List ℕ) (shelf shelf' : ShelfState) (out out' : SinkState) (how : RunEnd) (last : World) → IsFair job.file image shelf shelf' out out' → 65_536 < length image
+not_within : (job : RawJob) (image : List ℕ) (shelf shelf' : ShelfState) (out out' : SinkState) (how : RunEnd) (last : ExactWorld) → IsFair job.file image shelf shelf' out out' → 65_536 < length image
     → HasRunTo job shelf how last → ⊥
 not_within job image shelf shelf' out out' how last fair past ran =
     let there : fair.files job.file ≡ Some ran.image = told_of shelf.files fair.files (λ files. files job.file ≡ Some ran.image) fair.told ran.told in

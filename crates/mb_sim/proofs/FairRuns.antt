@@ -11,7 +11,7 @@ use Rattle.board_load.specs.declared.refusal.Refusal.TheVariants as refusal
 use Rattle.board_machine.specs.declared.events.Rest.TheVariants as rest
 use Rattle.board_machine.specs.declared.events.RunEnd.{RunEnd}
 use Rattle.board_machine.specs.declared.events.RunEnd.TheVariants as end
-use Rattle.board_machine.specs.World.{World}
+use Rattle.exact_machine.specs.Machine.{ExactWorld}
 use Rattle.command_words.specs.declared.command.Command.{Command}
 use Rattle.command_words.specs.declared.command.Command.TheVariants.{Run}
 use Rattle.run_output.specs.declared.outputs.OutputFault.{OutputFault}
@@ -41,7 +41,7 @@ mishap words shelf shelf' out out' (refusal.BadImage core code at) fair h = elim
 mishap words shelf shelf' out out' (refusal.BadInput name offset) fair h = elim h [ ]
 
 -- a write that is refused is a fault that rose, or want of memory
-stored : (words : RunWords) (shelf shelf' : ShelfState) (out out' : SinkState) (board : BoardFile) (last : World) (fault : OutputFault)
+stored : (words : RunWords) (shelf shelf' : ShelfState) (out out' : SinkState) (board : BoardFile) (last : ExactWorld) (fault : OutputFault)
     → IsFairRun words.file words.journal shelf shelf' out out' → Puts words board last shelf shelf' (Err (store_of fault)) → HasRun (status_of_output fault)
 stored words shelf shelf' out out' board last output.NoMemory fair puts = tt
 stored words shelf shelf' out out' board last (output.Failed file) fair puts = absurd (fair.stores puts.places.4.writes.0)

@@ -1,7 +1,7 @@
 -- From what the run of `raw` and the printing say to what the status says.
 use Rattle.std.proofs.Common.{◌≡◌, List, Ok, sym, subst}
 use Rattle.std.specs.Io.KnownBytes.{append_known}
-use Rattle.board_machine.specs.World.{World}
+use Rattle.exact_machine.specs.Machine.{ExactWorld}
 use Rattle.board_machine.specs.declared.events.Rest.TheVariants as rest
 use Rattle.board_machine.specs.declared.events.RunEnd.{RunEnd}
 use Rattle.board_machine.specs.declared.events.RunEnd.TheVariants as end
@@ -13,7 +13,7 @@ use Rattle.mb_sim.specs.Top.{HasRunTo, RawJob, Says}
 use Rattle.mb_sim.specs.declared.status.Status.{Status}
 
 -- a run whose items were printed
-pub says_printed : (job : RawJob) (shelf shelf' : ShelfState) (out out' : SinkState) (how : RunEnd) (last : World) (entries : List Entry) (status : Status) → HasRunTo job shelf how last
+pub says_printed : (job : RawJob) (shelf shelf' : ShelfState) (out out' : SinkState) (how : RunEnd) (last : ExactWorld) (entries : List Entry) (status : Status) → HasRunTo job shelf how last
     → entries ≡ last.fabric.journal → Adds out out' (printed entries) (Ok tt) → status ≡ status_of how → Says job shelf shelf' out out' status
 says_printed job shelf shelf' out out' how last entries status ran same adds is =
     let P : Status → Type 0 = λ s. Says job shelf shelf' out out' s in

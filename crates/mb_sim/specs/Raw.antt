@@ -1,5 +1,5 @@
 -- The board of `raw`, and what is printed of its run.
-use Rattle.std.specs.Prelude.{◌≡◌, ℕ, ◌-◌, false, List, [], ◌∷◌, ◌++◌, flat_map, length, replicate, Option, Some, None, codes}
+use Rattle.std.specs.Prelude.{ℕ, ◌-◌, false, List, [], ◌∷◌, ◌++◌, flat_map, length, replicate, Option, Some, None, codes}
 use Rattle.core_regs.specs.State.{fresh}
 use Rattle.core_regs.specs.declared.causes.Order.TheVariants.{Big}
 use Rattle.isa_step.specs.Deeds.{View}
@@ -12,7 +12,9 @@ use Rattle.board_file.specs.declared.board.End.TheVariants.{Port, File}
 use Rattle.board_file.specs.declared.board.LinkRow.{LinkRow}
 use Rattle.board_file.specs.declared.board.Pipeline.TheVariants.{Plain}
 use Rattle.board_file.specs.declared.board.Turn.TheVariants.{Ascending}
-use Rattle.board_machine.specs.World.{Inputs, World, Start}
+use Rattle.board_machine.specs.World.{Inputs}
+use Rattle.exact_machine.specs.Machine.{ExactWorld}
+use Rattle.exact_machine.specs.Runs.{exact_start}
 use Rattle.mb_sim.specs.Lines.{item_line}
 
 -- one plain core with 65,536 bytes
@@ -65,6 +67,5 @@ abbrev pub no_inputs : Inputs
 no_inputs = record { links = []; uarts = [] }
 
 -- the board of an image before its first event
-pub record IsRawStart (file image : List ℕ) (w : World) : Type 0 where
-  pub began : Start (raw_board file) (raw_view image ∷ []) no_inputs w
-  pub room : w.fabric.spare ≡ 1_048_576
+abbrev pub raw_start : List ℕ → List ℕ → ExactWorld
+raw_start file image = exact_start (raw_board file) (raw_view image ∷ []) no_inputs 1_048_576

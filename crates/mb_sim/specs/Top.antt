@@ -9,7 +9,9 @@ use Rattle.board_load.specs.Jobs.{IsJobOf}
 use Rattle.board_machine.specs.declared.events.Rest.TheVariants as rest
 use Rattle.board_machine.specs.declared.events.RunEnd.{RunEnd}
 use Rattle.board_machine.specs.declared.events.RunEnd.TheVariants as end
-use Rattle.board_machine.specs.World.{Inputs, World}
+use Rattle.board_machine.specs.World.{Inputs}
+use Rattle.exact_machine.specs.Machine.{ExactWorld}
+use Rattle.board_run.specs.Runs.{IsRunOf}
 use Rattle.command_words.specs.declared.command.Command.{Command}
 use Rattle.command_words.specs.declared.command.Command.TheVariants.{Asm, Demo, Dis, Raw, Run}
 use Rattle.mb_sim.specs.declared.status.Status.{Status}
@@ -17,7 +19,6 @@ use Rattle.mb_sim.specs.declared.status.Status.TheVariants.{Ended, Waiting, Stop
 use Rattle.mb_sim.specs.Board.{Says as SaysRun}
 use Rattle.mb_sim.specs.Demo.{SaysDemo}
 use Rattle.mb_sim.specs.Raw.{no_inputs, printed, raw_board, raw_view}
-use Rattle.mb_sim.specs.Runs.{IsRunOf}
 use Rattle.mb_sim.specs.Tools.{SaysAssembled, SaysListed}
 
 -- `raw`: a file, and a limit of cycles
@@ -30,7 +31,7 @@ abbrev pub default_entries : ℕ
 default_entries = 1_048_576
 
 -- the command's run ended so, and this is the board then
-pub record HasRunTo (job : RawJob) (shelf : ShelfState) (how : RunEnd) (last : World) : Type 0 where
+pub record HasRunTo (job : RawJob) (shelf : ShelfState) (how : RunEnd) (last : ExactWorld) : Type 0 where
   pub image : List ℕ
   -- the image is the content of the file, where the shelf tells
   pub told : IfSome shelf.files (λ files. files job.file ≡ Some image)
@@ -40,12 +41,12 @@ pub record HasRunTo (job : RawJob) (shelf : ShelfState) (how : RunEnd) (last : W
 -- the command's run ended so, and the sink gained what it prints
 abbrev pub Prints : RawJob → ShelfState → SinkState → SinkState → RunEnd → Type 0
 Prints job shelf out out' how =
-    (last : World) × HasRunTo job shelf how last × (out'.written ≡ append_known out.written (printed last.fabric.journal))
+    (last : ExactWorld) × HasRunTo job shelf how last × (out'.written ≡ append_known out.written (printed last.fabric.journal))
 
 -- the command's run ended, and the sink gained a prefix of what it prints
 abbrev pub PrintsPrefix : RawJob → ShelfState → SinkState → SinkState → Type 0
 PrintsPrefix job shelf out out' =
-    (how : RunEnd) × (last : World) × HasRunTo job shelf how last
+    (how : RunEnd) × (last : ExactWorld) × HasRunTo job shelf how last
     × AddsPrefix out.written out'.written (printed last.fabric.journal)
 
 -- why the command's file has no run: a load that failed, a file that is too long, or want of memory, which is free

@@ -1,7 +1,7 @@
 //! `raw`: a flat image on a board of one plain core, whose port 0 leads to the output.
 ghost use Rattle.std.specs.Prelude.{◌≡◌, ◌≤◌, ◌∷◌, [], IfErr, IfOk, IfSome, OnOk, codes, length};
-ghost use Rattle.mb_sim.specs.Raw.{IsRawStart, memory_of, no_inputs, raw_board, raw_core, raw_link, raw_view};
-ghost use Rattle.mb_sim.specs.Runs.{IsRunOf};
+ghost use Rattle.board_run.specs.Runs.{IsRunOf};
+ghost use Rattle.mb_sim.specs.Raw.{memory_of, no_inputs, raw_board, raw_core, raw_link, raw_start, raw_view};
 ghost use Rattle.mb_sim.specs.Top.{CountsLoads, CountsWrites, HasRunTo, Refuses, Says};
 
 use crate::print::print_items;
@@ -112,7 +112,7 @@ fn run_image(
 /// The board with an image before its first event; `None` for want of memory.
 fn board_with(alloc: Global, file: &FileName, image: &[u8]) -> Option<Board<AnyCore>>
     requires fits { length image.now ≤ 65_536 }
-    ensures { IfSome result (IsRawStart file.now image.now) }
+    ensures { IfSome result (λ b. b ≡ raw_start file.now image.now) }
 {
     let memory = memory_with(alloc, image)?;
     let mut cores = Vec::new(alloc);

@@ -6,7 +6,7 @@ use Rattle.board_file.specs.declared.board.EventRow.{EventRow}
 use Rattle.board_file.specs.declared.board.LinkRow.{LinkRow}
 use Rattle.board_file.specs.declared.board.Turn.TheVariants.{Ascending}
 use Rattle.board_machine.specs.declared.events.Event.TheVariants.{Devices, Host}
-use Rattle.board_machine.specs.Cycles.{CanCycle, CanRun, Runs, events_of, turn_of, turns}
+use Rattle.board_machine.specs.Cycles.{events_of, turn_of, turns}
 use Rattle.axi_intc.specs.declared.intc.Intc.{Intc}
 use Rattle.axi_intc.specs.Machine as intc
 use Rattle.axi_timer.specs.declared.timer.Timer.{Timer}
@@ -16,7 +16,9 @@ use Rattle.board_machine.specs.Bus.{DeviceRows, Devices as DeviceSet, Serial, is
 use Rattle.board_machine.specs.DeviceMoves.{controller, inputs_of, output_of}
 use Rattle.board_machine.specs.Fabric.{Fabric, Feed, is_on, or_low, or_none}
 use Rattle.board_machine.specs.Resting.{is_quiet_to, rest_of}
-use Rattle.board_machine.specs.World.{CoreAt, Schedule, World, Step, Steps, need}
+use Rattle.board_machine.specs.World.{Schedule}
+use Rattle.exact_machine.specs.Machine.{ExactCore, ExactWorld, opened}
+use Rattle.exact_machine.specs.Stepping.{CanCycle, CanRun, Runs, Step, Steps, need_of}
 
 -- no break that is left comes before a cycle
 abbrev pub NoneBefore : ℕ → List EventRow → Type 0
@@ -69,8 +71,8 @@ pub record IsQuiet (until : ℕ) (f : Fabric) : Type 0 where
 
 -- before the next break devices that are at rest do nothing, and where the host can move no item it does nothing
 pub record QuietCycles : Type 0 where
-  pub devices : (w : World) (next : ℕ) → NoneBefore next w.fabric.left → w.fabric.cycle < next → IsCalm w.fabric.lines w.fabric.pending → AreAtRest w.fabric.bus w.fabric.devices → Step w Devices w
-  pub host : (w : World) → is_quiet_to w.fabric (length w.fabric.rows) ≡ true → Step w Host w
+  pub devices : (w : ExactWorld) (next : ℕ) → NoneBefore next w.fabric.left → w.fabric.cycle < next → IsCalm w.fabric.lines w.fabric.pending → AreAtRest w.fabric.bus w.fabric.devices → Step w Devices w
+  pub host : (w : ExactWorld) → is_quiet_to w.fabric (length w.fabric.rows) ≡ true → Step w Host w
 
 -- clocks that are all 1
 pub record AreOnes (clocks : List ℕ) : Type 0 where
@@ -83,7 +85,7 @@ pub record IsInStep (s : Schedule) : Type 0 where
   pub clocks : AreOnes s.clocks
 
 -- a part of a run: so many cycles, each begun where no end was reached
-pub record RunsOn (limit : ℕ) (old new : World) : Type 0 where
+pub record RunsOn (limit : ℕ) (old new : ExactWorld) : Type 0 where
   pub count : ℕ
   pub ran : Runs limit old count new
   pub cycle : new.fabric.cycle ≡ old.fabric.cycle + count
@@ -97,73 +99,73 @@ pub record IsQuietNow (f : Fabric) : Type 0 where
   pub before : f.cycle < until
 
 -- amid a cycle, after its first k turns
-pub record IsAmid (w : World) (k : ℕ) : Type 0 where
-  pub old : World
+pub record IsAmid (w : ExactWorld) (k : ℕ) : Type 0 where
+  pub old : ExactWorld
   pub can : CanCycle old
   pub few : k ≤ length old.schedule.clocks
   pub steps : Steps old (Devices ∷ Host ∷ turns old.schedule old.fabric.cycle k) w
 
 -- from the first k turns of a cycle to its first n, wherever it began
-pub record TurnsFrom (w : World) (k : ℕ) (v : World) (n : ℕ) : Type 0 where
-  pub each : (old : World) → CanCycle old → k ≤ length old.schedule.clocks → Steps old (Devices ∷ Host ∷ turns old.schedule old.fabric.cycle k) w → Steps old (Devices ∷ Host ∷ turns old.schedule old.fabric.cycle n) v
+pub record TurnsFrom (w : ExactWorld) (k : ℕ) (v : ExactWorld) (n : ℕ) : Type 0 where
+  pub each : (old : ExactWorld) → CanCycle old → k ≤ length old.schedule.clocks → Steps old (Devices ∷ Host ∷ turns old.schedule old.fabric.cycle k) w → Steps old (Devices ∷ Host ∷ turns old.schedule old.fabric.cycle n) v
 
 -- and to its last
-pub record TurnsWhole (w : World) (k : ℕ) (v : World) : Type 0 where
-  pub each : (old : World) → CanCycle old → k ≤ length old.schedule.clocks → Steps old (Devices ∷ Host ∷ turns old.schedule old.fabric.cycle k) w → Steps old (Devices ∷ Host ∷ turns old.schedule old.fabric.cycle (length old.schedule.clocks)) v
+pub record TurnsWhole (w : ExactWorld) (k : ℕ) (v : ExactWorld) : Type 0 where
+  pub each : (old : ExactWorld) → CanCycle old → k ≤ length old.schedule.clocks → Steps old (Devices ∷ Host ∷ turns old.schedule old.fabric.cycle k) w → Steps old (Devices ∷ Host ∷ turns old.schedule old.fabric.cycle (length old.schedule.clocks)) v
 
 -- a cycle of which k turns were done, finished wherever it began; nothing where none was
-pub record Finished (w : World) (k : ℕ) (v : World) : Type 0 where
+pub record Finished (w : ExactWorld) (k : ℕ) (v : ExactWorld) : Type 0 where
   pub none : k ≡ 0 → v ≡ w
-  pub each : 0 < k → (old : World) → CanCycle old → k ≤ length old.schedule.clocks → Steps old (Devices ∷ Host ∷ turns old.schedule old.fabric.cycle k) w → Steps old (events_of old.schedule old.fabric.cycle) v
+  pub each : 0 < k → (old : ExactWorld) → CanCycle old → k ≤ length old.schedule.clocks → Steps old (Devices ∷ Host ∷ turns old.schedule old.fabric.cycle k) w → Steps old (events_of old.schedule old.fabric.cycle) v
 
 -- a cycle up to its first k turns, in which each core acted at once and nothing else happened
-pub record TurnsAtOnce (old : World) (k : ℕ) (new : World) : Type 0 where
+pub record TurnsAtOnce (old : ExactWorld) (k : ℕ) (new : ExactWorld) : Type 0 where
   pub steps : Steps old (Devices ∷ Host ∷ turns old.schedule old.fabric.cycle k) new
   pub fabric : new.fabric ≡ old.fabric
   pub none : k ≡ 0 → new ≡ old
-  pub busy : 0 < k → rest_of old ≡ None
+  pub busy : 0 < k → rest_of (opened old) ≡ None
 
 -- a board in step, before a quiet cycle
-pub record IsReadyInStep (w : World) : Type 0 where
+pub record IsReadyInStep (w : ExactWorld) : Type 0 where
   pub can : CanCycle w
   pub quiet : IsQuietNow w.fabric
   pub in_step : IsInStep w.schedule
   pub clocks : length w.schedule.clocks ≡ length w.cores
 
 -- the cores of such a board
-pub record AreReadyInStep (cores : List CoreAt) : Type 0 where
-  pub board : World
+pub record AreReadyInStep (cores : List ExactCore) : Type 0 where
+  pub board : ExactWorld
   pub here : board.cores ≡ cores
   pub ready : IsReadyInStep board
 
 -- the first k cores acted at once: on each such board, its first k turns
-pub record TicksAtOnce (old : List CoreAt) (k : ℕ) (new : List CoreAt) : Type 0 where
-  pub each : (w : World) → w.cores ≡ old → IsReadyInStep w → TurnsAtOnce w k (record w { cores = new })
+pub record TicksAtOnce (old : List ExactCore) (k : ℕ) (new : List ExactCore) : Type 0 where
+  pub each : (w : ExactWorld) → w.cores ≡ old → IsReadyInStep w → TurnsAtOnce w k (record w { cores = new })
 
 -- a turn of a cycle in which its core acted at once, or passed it
-pub record TurnAtOnce (old : World) (k : ℕ) (acted : Bool) (new : World) : Type 0 where
+pub record TurnAtOnce (old : ExactWorld) (k : ℕ) (acted : Bool) (new : ExactWorld) : Type 0 where
   pub steps : Steps old (turn_of old.schedule old.fabric.cycle k) new
   pub fabric : new.fabric ≡ old.fabric
   pub none : acted ≡ false → new ≡ old
-  pub busy : acted ≡ true → rest_of old ≡ None
+  pub busy : acted ≡ true → rest_of (opened old) ≡ None
 
 -- such a turn, and whether the core acted; None where it would do something else, and nothing changed
-abbrev pub TurnSays : World → ℕ → Option Bool → World → Type 0
+abbrev pub TurnSays : ExactWorld → ℕ → Option Bool → ExactWorld → Type 0
 TurnSays old k None new = new ≡ old
 TurnSays old k (Some acted) new = TurnAtOnce old k acted new
 
 -- a cycle up to its first k turns, all such, and whether a core acted
-pub record TurnsQuiet (old : World) (k : ℕ) (acted : Bool) (new : World) : Type 0 where
+pub record TurnsQuiet (old : ExactWorld) (k : ℕ) (acted : Bool) (new : ExactWorld) : Type 0 where
   pub steps : Steps old (Devices ∷ Host ∷ turns old.schedule old.fabric.cycle k) new
   pub fabric : new.fabric ≡ old.fabric
   pub none : acted ≡ false → new ≡ old
   pub some : acted ≡ true → 0 < k
-  pub busy : acted ≡ true → rest_of old ≡ None
+  pub busy : acted ≡ true → rest_of (opened old) ≡ None
 
 -- a part of a run, up to a cycle that may be quiet; steady is whether the board is in step
-pub record QuietRun (limit quiet : ℕ) (steady : Bool) (old new : World) (number : ℕ) : Type 0 where
+pub record QuietRun (limit quiet : ℕ) (steady : Bool) (old new : ExactWorld) (number : ℕ) : Type 0 where
   pub ran : RunsOn limit old new
   pub cycle : new.fabric.cycle ≡ number
   pub calm : number < quiet → IsQuiet quiet new.fabric
-  pub spare : need new ≤ new.fabric.spare
+  pub spare : need_of new ≤ new.fabric.spare
   pub in_step : steady ≡ true → IsInStep new.schedule

@@ -17,16 +17,17 @@ use Rattle.board_file.specs.declared.board.BoardFile.{BoardFile}
 use Rattle.board_file.specs.declared.board.CoreRow.{CoreRow}
 use Rattle.board_file.specs.declared.board.LinkRow.{LinkRow}
 use Rattle.board_file.specs.declared.board.Turn.{Turn}
-use Rattle.board_machine.specs.Cycles.{RunsTo}
-use Rattle.board_machine.specs.World.{Inputs, Start, World}
-use Rattle.board_run.specs.Boards.{AreNew, IsBuildable, IsNew, pipe_of}
+use Rattle.board_machine.specs.World.{Inputs}
+use Rattle.exact_machine.specs.Machine.{ExactWorld}
+use Rattle.exact_machine.specs.Runs.{ExactRun, exact_start, pipe_of}
+use Rattle.board_run.specs.Boards.{AreNew, IsBuildable, IsNew}
+use Rattle.board_run.proofs.WholeRuns.{run_of}
 use Rattle.board_run.proofs.Beginning.{map_some}
 use Rattle.board_run.proofs.Built.{are_new_more}
 use Rattle.net_law.specs.Boards.{AreMarked, IsNetwork}
-use Rattle.net_law.specs.Law.{KeepsNetwork}
 use Rattle.ring_demo.specs.Programs.{no_inputs, ring_view, ring_views}
 use Rattle.ring_demo.specs.Ring.{cores_of, output_link, ring_board, ring_core, ring_cores, ring_link, ring_links}
-use Rattle.ring_demo.specs.Runs.{HasRun, IsRingStart, RingsAreNetworks}
+use Rattle.ring_demo.specs.Runs.{HasRun, RingsAreNetworks, ring_start}
 use Rattle.ring_demo.specs.Summary.{IsTally}
 use Rattle.ring_demo.specs.declared.run.Ran.{Ran}
 use Rattle.ring_demo.proofs.Lists.{row_next}
@@ -131,24 +132,19 @@ all_new number count file turn cores is many h =
     subst Q (sym is) (subst P many h)
 
 -- it starts
-pub started : (turn : Turn) (number count : ℕ) (file : BoardFile) (cores : List AnyCore) (inputs : Inputs) (w : World) → file ≡ ring_board turn number → count ≡ cores_of number
-    → map view_seen cores ≡ map (ring_view number) (range_with_len 0 count) → inputs.links ≡ [] → inputs.uarts ≡ [] → Start file (map view_seen cores) inputs w
-    → w.fabric.spare ≡ 1_048_576 → IsRingStart turn number w
-started turn number count file cores inputs w is many views links uarts began room =
+pub started : (turn : Turn) (number count : ℕ) (file : BoardFile) (cores : List AnyCore) (inputs : Inputs) (x : ExactWorld) → file ≡ ring_board turn number → count ≡ cores_of number
+    → map view_seen cores ≡ map (ring_view number) (range_with_len 0 count) → inputs.links ≡ [] → inputs.uarts ≡ [] → x ≡ exact_start file (map view_seen cores) inputs 1_048_576
+    → x ≡ ring_start turn number
+started turn number count file cores inputs x is many views links uarts began =
     let none : inputs ≡ no_inputs = λ i. record { links = links i; uarts = uarts i } in
-    let P : List View → Type 0 = λ vs. Start (ring_board turn number) vs no_inputs w in
-    let Q : BoardFile → Type 0 = λ b. Start b (map view_seen cores) no_inputs w in
-    let R : Inputs → Type 0 = λ given. Start file (map view_seen cores) given w in
-    record { began = subst P (views ∙ ap (λ n. map (ring_view number) (range_with_len 0 n)) many) (subst Q is (subst R none began)); room = room }
+    began ∙ ap (λ given. exact_start file (map view_seen cores) given 1_048_576) none ∙ ap (λ b. exact_start b (map view_seen cores) no_inputs 1_048_576) is
+    ∙ ap (λ vs. exact_start (ring_board turn number) vs no_inputs 1_048_576) (views ∙ ap (λ n. map (ring_view number) (range_with_len 0 n)) many)
 
 -- and runs
-pub has_run : (turn : Turn) (number : ℕ) (ran : Ran) (first last : World) → IsRingStart turn number first → RunsTo 10_000_000 first last ran.end → KeepsNetwork first last
+pub has_run : (turn : Turn) (number : ℕ) (ran : Ran) (first last : ExactWorld) → first ≡ ring_start turn number → ExactRun 10_000_000 first last ran.end
     → IsTally ran.tally last.fabric.journal → HasRun turn number ran
-has_run turn number ran first last start runs keeps left = record {
-  first = first;
-  last = last;
-  start = start;
-  runs = runs;
-  left = left;
-  network = keeps (ring_board turn number) (ring_views number) no_inputs (is_network turn number) (record { first = first; events = []; began = start.began; ran = refl });
-}
+has_run turn number ran first last start run left =
+    let count : length (ring_views number) ≡ length (ring_board turn number).cores =
+        length-map-range_with_len (ring_view number) 0 (cores_of number) ∙ sym (length-map-range_with_len ring_core 0 (cores_of number)) in
+    let runs = run_of (ring_board turn number) (ring_views number) no_inputs 1_048_576 10_000_000 last ran.end count (subst (λ x. ExactRun 10_000_000 x last ran.end) start run) in
+    record { last = last; runs = runs; left = left; network = runs.is_run.network (is_network turn number) }

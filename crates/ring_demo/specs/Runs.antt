@@ -1,12 +1,13 @@
 -- The runs of a ring.
-use Rattle.std.specs.Prelude.{◌≡◌, ℕ}
+use Rattle.std.specs.Prelude.{ℕ}
 use Rattle.board_file.specs.declared.board.Turn.{Turn}
 use Rattle.board_file.specs.declared.board.Turn.TheVariants.{Ascending, Descending, Rotating}
 use Rattle.board_machine.specs.declared.events.Rest.TheVariants as rest
 use Rattle.board_machine.specs.declared.events.RunEnd.{RunEnd}
 use Rattle.board_machine.specs.declared.events.RunEnd.TheVariants.{Rest as AtRest}
-use Rattle.board_machine.specs.Cycles.{RunsTo}
-use Rattle.board_machine.specs.World.{Start, World}
+use Rattle.exact_machine.specs.Machine.{ExactWorld}
+use Rattle.exact_machine.specs.Runs.{exact_start}
+use Rattle.board_run.specs.Runs.{IsRunOf}
 use Rattle.net_law.specs.Boards.{IsNetwork}
 use Rattle.net_law.specs.Law.{FollowsNetwork}
 use Rattle.ring_demo.specs.Programs.{no_inputs, ring_views}
@@ -16,19 +17,16 @@ use Rattle.ring_demo.specs.declared.run.Ran.{Ran}
 use Rattle.ring_demo.specs.declared.run.Runs.{Runs}
 
 -- the ring of a number in an order before its first event, with the room for entries
-pub record IsRingStart (turn : Turn) (number : ℕ) (w : World) : Type 0 where
-  pub began : Start (ring_board turn number) (ring_views number) no_inputs w
-  pub room : w.fabric.spare ≡ 1_048_576
+abbrev pub ring_start : Turn → ℕ → ExactWorld
+ring_start turn number = exact_start (ring_board turn number) (ring_views number) no_inputs 1_048_576
 
--- a run of the ring by the board machine, by cycles up to the first of rest, the limit and a full journal, and what left it
+-- the run of the ring by the exact machine, by cycles up to the first of rest, the limit and a full journal, and what left it
 pub record HasRun (turn : Turn) (number : ℕ) (ran : Ran) : Type 0 where
-  pub first : World
-  pub last : World
-  pub start : IsRingStart turn number first
-  pub runs : RunsTo 10_000_000 first last ran.end
+  pub last : ExactWorld
+  pub runs : IsRunOf (ring_board turn number) (ring_views number) no_inputs 1_048_576 10_000_000 last ran.end
   pub left : IsTally ran.tally last.fabric.journal
   -- each link carried a prefix of the reference network's history, and at rest all of it
-  pub network : FollowsNetwork (ring_board turn number) (ring_views number) no_inputs last
+  pub network : FollowsNetwork (ring_board turn number) (ring_views number) no_inputs runs.open
 
 -- a run in each order
 pub record HasRuns (number : ℕ) (runs : Runs) : Type 0 where

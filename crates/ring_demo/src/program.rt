@@ -2,7 +2,8 @@
 ghost use Rattle.std.specs.Prelude.{◌≡◌, ◌<◌, ◌≤◌, IfSome, length, map};
 ghost use Rattle.std.specs.List.{range_with_len};
 ghost use Rattle.any_core.specs.States.{any_state};
-ghost use Rattle.board_run.specs.Boards.{AreNew, IsNew, pipe_of};
+ghost use Rattle.board_run.specs.Boards.{AreNew, IsNew};
+ghost use Rattle.exact_machine.specs.Runs.{pipe_of};
 ghost use Rattle.ring_demo.specs.Programs.{first_words, image_of, memory_of, next_words, ring_view, value_of};
 ghost use Rattle.ring_demo.specs.Ring.{pipeline_at, ring_core};
 

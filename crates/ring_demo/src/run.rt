@@ -1,6 +1,6 @@
 //! Runs of a ring.
 ghost use Rattle.std.specs.Prelude.{◌≡◌, [], IfSome};
-ghost use Rattle.ring_demo.specs.Runs.{HasRun, HasRuns, IsRingStart};
+ghost use Rattle.ring_demo.specs.Runs.{HasRun, HasRuns, ring_start};
 
 use crate::program::ring_cores;
 use crate::ring::{cores_of, ring_board};
@@ -56,7 +56,7 @@ fn run_ring(alloc: Global, turn: Turn, number: u32) -> Option<Ran>
 
 /// The ring of a number before its first event; `None` for want of memory.
 fn build_ring(alloc: Global, turn: Turn, number: u32) -> Option<Board<AnyCore>>
-    ensures { IfSome result (IsRingStart turn number) }
+    ensures { IfSome result (λ b. b ≡ ring_start turn number) }
 {
     let file = ring_board(alloc, turn, number)?;
     let cores = ring_cores(alloc, number, cores_of(number))?;

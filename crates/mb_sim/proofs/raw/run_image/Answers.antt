@@ -1,9 +1,11 @@
-use Rattle.std.proofs.Common.{[], ◌∷◌}
+use Rattle.std.proofs.Common.{[], ◌∷◌, refl, subst}
+use Rattle.exact_machine.specs.Machine.{ExactWorld}
+use Rattle.exact_machine.specs.Runs.{ExactRun}
 use Rattle.mb_sim.specs.Raw.{no_inputs, raw_board, raw_view}
-use Rattle.mb_sim.proofs.Boards.{run_of}
+use Rattle.board_run.proofs.WholeRuns.{run_of}
 use Rattle.mb_sim.proofs.raw.run_image.Goals as goal
 
 pub returns : goal.returns
 returns c =
-    let start = c.in_ok-board.ensures in
-    run_of (raw_board c.args.file.now) (raw_view c.args.image.now ∷ []) no_inputs 1_048_576 c.args.cycles c.in_ok-board.board c.run-end.new.self c.run-end.result start.began start.room c.run-end.ensures.ran c.run-end.ensures.runs
+    let R : ExactWorld → Type 0 = λ x. ExactRun c.args.cycles x c.run-end.new.self c.run-end.result in
+    run_of (raw_board c.args.file.now) (raw_view c.args.image.now ∷ []) no_inputs 1_048_576 c.args.cycles c.run-end.new.self c.run-end.result refl (subst R c.in_ok-board.ensures c.run-end.ensures.ran)

@@ -20,7 +20,7 @@ pub returns-in-Some-clause-says : goal.returns-in-Some-clause-says
 returns-in-Some-clause-says g c =
     says_played c.args.words.now (g.S.Shelf.state c.args.shelf.now) (g.S.Shelf.state c.load_job.new.shelf) (g.S.Shelf.state c.play.new.shelf) (g.O.Sink.state c.args.out.now) (g.O.Sink.state c.play.new.out) c.play.result
     c.in-Ok.job.board c.in-Some.ready.outputs (map (λ (core : AnyCore). (any_state core).view) c.in-Ok.job.cores.items) (record { links = c.in-Ok.job.inputs.links; uarts = c.in-Ok.job.inputs.uarts }) c.in-Some.ready.board
-    c.in-Ok.ensures.ok c.in-Some.ensures.file c.in-Some.ensures.start c.in-Some.ensures.room c.in-Ok.ensures.quiet c.play.ensures.plays
+    c.in-Ok.ensures.ok c.in-Some.ensures.file c.in-Some.ensures.start c.in-Ok.ensures.quiet c.play.ensures.plays
 
 pub returns-in-Some-clause-loads : goal.returns-in-Some-clause-loads
 returns-in-Some-clause-loads g c =

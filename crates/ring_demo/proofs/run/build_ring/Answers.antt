@@ -12,4 +12,4 @@ pub returns-in-Ok : goal.returns-in-Ok
 returns-in-Ok c =
     started c.args.turn c.args.number c.cores_of.result c.in_ok-file.file c.in_ok-cores.cores.items
     (record { links = c.no_inputs-inputs.result.links; uarts = c.no_inputs-inputs.result.uarts }) c.in-Ok.board c.in_ok-file.ensures c.cores_of.ensures.count
-    c.in_ok-cores.ensures.views c.no_inputs-inputs.ensures.links c.no_inputs-inputs.ensures.uarts c.in-Ok.ensures.start c.in-Ok.ensures.spare
+    c.in_ok-cores.ensures.views c.no_inputs-inputs.ensures.links c.no_inputs-inputs.ensures.uarts c.in-Ok.ensures
