@@ -16,7 +16,7 @@ use Rattle.exact_machine.specs.Machine.{ExactWorld}
 use Rattle.exact_machine.specs.Runs.{ExactRun, exact_start}
 use Rattle.board_run.specs.Runs.{IsRunOf}
 use Rattle.board_run.proofs.WholeRuns.{run_of}
-use Rattle.network_jobs.proofs.Jobs.{jobs_follow}
+use Rattle.job_laws.proofs.Jobs.{jobs_follow}
 use Rattle.host_io.specs.Outside.{CountsWriteFault}
 use Rattle.host_io.specs.declared.faults.StoreFault.TheVariants as store
 use Rattle.board_file.specs.declared.board.CoreRow.{CoreRow}

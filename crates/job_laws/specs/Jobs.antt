@@ -1,4 +1,4 @@
--- Runs of network boards that were loaded from files.
+-- Runs of boards that were loaded from files.
 use Rattle.std.specs.Prelude.{◌≡◌, ℕ, true, List, map, Option, Some, slice_get}
 use Rattle.isa_step.specs.Deeds.{View}
 use Rattle.host_io.specs.Outside.{Files}
@@ -9,6 +9,9 @@ use Rattle.board_file.specs.declared.board.LinkRow.{LinkRow}
 use Rattle.board_load.specs.Jobs.{IsJobOf}
 use Rattle.board_machine.specs.Cycles.{Cycles}
 use Rattle.board_machine.specs.World.{Inputs, Start, World}
+use Rattle.board_machine.specs.declared.events.RunEnd.{RunEnd}
+use Rattle.exact_machine.specs.Machine.{ExactWorld}
+use Rattle.exact_machine.specs.Runs.{ExactRun, exact_start}
 use Rattle.net_law.specs.Boards.{IsOutput}
 use Rattle.net_law.specs.Law.{Agree, FollowsNetwork}
 
@@ -35,3 +38,18 @@ loaded_by row = (row.image, row.memory)
 -- two runs over the same files, of boards with the same links, images and memories: order, clocks and pipelines may differ
 pub record JobsAgree : Type 0 where
   pub agree : (files : Files) (b c : BoardFile) (views others : List View) (inputs given : Inputs) (v w : World) → c.links ≡ b.links → map loaded_by c.cores ≡ map loaded_by b.cores → IsNetworkRun (Some files) b views inputs v → IsNetworkRun (Some files) c others given w → Agree b v w
+
+-- the run of a file's board, with the images and inputs that it names, this room for entries and this limit of cycles
+pub record IsJobRun (files : Option Files) (b : BoardFile) (room limit : ℕ) (last : ExactWorld) (end : RunEnd) : Type 0 where
+  pub file : List ℕ
+  pub journal : Option (List ℕ)
+  pub views : List View
+  pub inputs : Inputs
+  pub job : IsJobOf files file journal b views inputs
+  pub ran : ExactRun limit (exact_start b views inputs room) last end
+
+-- over the same files a board has one such run: it ends in the same state, the journal and the cycle number among it, and for
+-- the same reason
+pub record JobsRunAlike : Type 0 where
+  pub alike : (files : Files) (b : BoardFile) (room limit : ℕ) (v w : ExactWorld) (end last : RunEnd)
+      → IsJobRun (Some files) b room limit v end → IsJobRun (Some files) b room limit w last → (w ≡ v) × (last ≡ end)
