@@ -23,7 +23,7 @@ ticked state xs k old new l e h =
       step = λ w same calm.
           let tick = ticks_alone k (shown w.fabric k) w.fabric (state old) (state new) h calm in
           stepped w k (seen state old) (seen state new) w.fabric (ap (λ (cores : List ExactCore). slice_get cores k) same ∙ there) tick.core_is tick.fabric
-            (map-set (seen state) xs k new ∙ ap (λ (cores : List ExactCore). slice_set cores k (seen state new)) (sym same));
+          (map-set (seen state) xs k new ∙ ap (λ (cores : List ExactCore). slice_set cores k (seen state new)) (sym same));
       busy = λ w same calm. ap (idle_here w.fabric k) (opened_at w.cores k (seen state old) (ap (λ (cores : List ExactCore). slice_get cores k) same ∙ there)) ∙ busy_alone k w.fabric h calm;
     }
 

@@ -46,7 +46,7 @@ cycle_in_open old new c s = steps_in_open old new (events_of old.schedule old.fa
 own_events : (old : ExactWorld) (w v : World) → IsOpen old w → Steps w (events_of old.schedule old.fabric.cycle) v → Steps w (events_of w.schedule w.fabric.cycle) v
 own_events old w v h steps =
     subst (λ (t : Schedule). Steps w (events_of t w.fabric.cycle) v) (sym h.schedule)
-      (subst (λ (f : Fabric). Steps w (events_of old.schedule f.cycle) v) (sym h.fabric) steps)
+    (subst (λ (f : Fabric). Steps w (events_of old.schedule f.cycle) v) (sym h.fabric) steps)
 
 pub cycle_progress : (old new : ExactWorld) → length old.schedule.clocks ≡ length old.cores → ExactSteps old (events_of old.schedule old.fabric.cycle) new → InOpen KeepsProgress old new
 cycle_progress old new c s =

@@ -120,8 +120,6 @@ tick_of done spare leaves fabric core (Stops cause) held quiet Sleeping old p ne
 tick_of done spare leaves fabric core (Stops cause) held quiet Ended old p new q does h = absurd h
 tick_of done spare leaves fabric core (Stops cause) held quiet (Stopped why) old p new q does h = record { core_is = ap core_of h.1.core; fabric = ap fabric h.1.ports }
 
-
-
 pub tick_exact : {P : Type 0} {done : P → List Action} {spare : P → ℕ} {leaves : P → Action → P → Type 0} {shown : Shown} {answer : Tick} {old new : CoreState} {p q : P} (fabric : P → Fabric) (core : ℕ)
     → ((a : Action) → leaves p a q → fabric q ≡ entered core old.acts (entry_of_action a) (fabric p)) → Ticks done spare leaves shown answer old p new q
     → IsExactTick core (due old.view shown) (is_held old shown) old (fabric p) new (answered core old.acts answer (fabric q))

@@ -26,7 +26,7 @@ open_run : (b : BoardFile) (views : List View) (inputs : Inputs) (entries limit 
     → RunsTo limit first last end → IsOpenRun b views inputs entries limit last end
 open_run b views inputs entries limit first last end began room ran =
     let is_run : IsRunFrom b views inputs last =
-        keeps_runs first last (cycles_of first.schedule first.fabric.cycle ran.count) ran.cycles b views inputs (record { first = first; events = []; began = began; ran = refl }) in
+    keeps_runs first last (cycles_of first.schedule first.fabric.cycle ran.count) ran.cycles b views inputs (record { first = first; events = []; began = began; ran = refl }) in
     record {
       first = first;
       began = began;
@@ -56,11 +56,11 @@ pub run_of : (b : BoardFile) (views : List View) (inputs : Inputs) (entries limi
 run_of b views inputs entries limit last end count ran =
     let start = start_open b views inputs entries count in
     let clocks : length (map (λ (row : CoreRow). row.clock) b.cores) ≡ length (exact_start b views inputs entries).cores =
-        length-map b.cores (λ (row : CoreRow). row.clock) ∙ sym (fresh_count b.cores views count) in
+    length-map b.cores (λ (row : CoreRow). row.clock) ∙ sym (fresh_count b.cores views count) in
     let run = runs_open.runs limit (exact_start b views inputs entries) last start.first end start.is_open clocks ran in
     record {
       ran = ran;
-      open = run.last;
+      open_last = run.last;
       is_open = run.is_open;
       is_run = open_run b views inputs entries limit start.first run.last end start.began (ap (λ (f : Fabric). f.spare) start.is_open.fabric) run.ran;
     }

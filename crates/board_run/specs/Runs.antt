@@ -32,6 +32,6 @@ pub record IsOpenRun (b : BoardFile) (views : List View) (inputs : Inputs) (entr
 -- the timing of the pipeline that its row names lets it. It is a run of the board machine, but for the slacks there
 pub record IsRunOf (b : BoardFile) (views : List View) (inputs : Inputs) (entries limit : ℕ) (last : ExactWorld) (end : RunEnd) : Type 0 where
   pub ran : ExactRun limit (exact_start b views inputs entries) last end
-  pub open : World
-  pub is_open : IsOpen last open
-  pub is_run : IsOpenRun b views inputs entries limit open end
+  pub open_last : World
+  pub is_open : IsOpen last open_last
+  pub is_run : IsOpenRun b views inputs entries limit open_last end

@@ -148,7 +148,7 @@ turns_after old (suc k) l =
     let turn = turn_of old.schedule old.fabric.cycle k in
     let here = exact_steps first (turns old.schedule old.fabric.cycle k) in
     subst (λ x. Amid old x (suc k)) (sym (steps_join first (turns old.schedule old.fabric.cycle k) turn))
-      (amid_where old here k (divides (slice_get old.schedule.clocks (core_of_turn old.schedule old.fabric.cycle k)) old.fabric.cycle) (omega (arith, l)) (turns_after old k (omega (arith, l))))
+    (amid_where old here k (divides (slice_get old.schedule.clocks (core_of_turn old.schedule old.fabric.cycle k)) old.fabric.cycle) (omega (arith, l)) (turns_after old k (omega (arith, l))))
 
 pub turns_amid : (old w : ExactWorld) (k : ℕ) → k ≤ length old.schedule.clocks → Steps old (Devices ∷ Host ∷ turns old.schedule old.fabric.cycle k) w → Amid old w k
 turns_amid old w k l h = subst (λ w. Amid old w k) (sym h) (turns_after old k l)

@@ -91,7 +91,7 @@ jobs_run_alike = record {
       let from_uarts : s.inputs.uarts ≡ r.inputs.uarts = same_serials files (serial_files b.uarts) r.inputs.uarts s.inputs.uarts r.job.has_serials s.job.has_serials in
       let inputs : s.inputs ≡ r.inputs = λ k. record { links = from_links k; uarts = from_uarts k } in
       let ran : ExactRun limit (exact_start b r.views r.inputs room) w last =
-          subst (λ given. ExactRun limit (exact_start b r.views given room) w last) inputs (subst (λ vs. ExactRun limit (exact_start b vs s.inputs room) w last) views s.ran) in
+      subst (λ given. ExactRun limit (exact_start b r.views given room) w last) inputs (subst (λ vs. ExactRun limit (exact_start b vs s.inputs room) w last) views s.ran) in
       determined.one_end limit (exact_start b r.views r.inputs room) w v last end ran r.ran;
 }
 

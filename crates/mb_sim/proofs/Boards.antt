@@ -134,14 +134,14 @@ says_played words shelf mid shelf' out out' status board file views inputs first
     let Q : ShelfState → Type 0 = λ s. PutsOut words.journal board p.last p.how s shelf' out out' status in
     let R : ExactWorld → Type 0 = λ x. ExactRun words.cycles x p.last p.how in
     let ran : IsRunOf board views inputs words.entries words.cycles p.last p.how =
-        run_of board views inputs words.entries words.cycles p.last p.how (loaded_count shelf.files board.network board.cores views job.has_cores) (subst R began p.ran) in
+    run_of board views inputs words.entries words.cycles p.last p.how (loaded_count shelf.files board.network board.cores views job.has_cores) (subst R began p.ran) in
     says_puts words shelf shelf' out out' status board p.last p.how
     (record {
       views = views;
       inputs = inputs;
       job = job;
       ran = ran;
-      network = λ is. jobs_follow.follows shelf.files board views inputs ran.open
+      network = λ is. jobs_follow.follows shelf.files board views inputs ran.open_last
           (record { file = words.file; journal = words.journal; job = job; network = is; first = ran.is_run.first; began = ran.is_run.began; count = ran.is_run.ran.count; ran = ran.is_run.ran.cycles });
     })
     (apart shelf.files words.file words.journal board views inputs p.last.fabric.journal job) (subst Q quiet (subst P same p.puts))

@@ -33,7 +33,7 @@ pub record HasRun (words : RunWords) (files : Option Files) (board : BoardFile) 
   pub job : IsJobOf files words.file words.journal board views inputs
   pub ran : IsRunOf board views inputs words.entries words.cycles last how
   -- on a network board each link's file is a prefix of what the reference network sends to it, and at rest all of that
-  pub network : board.network ≡ true → FollowsNetwork board views inputs ran.open
+  pub network : board.network ≡ true → FollowsNetwork board views inputs ran.open_last
 
 -- how a core stands at the end
 abbrev pub core_end : ExactWorld → ℕ → Option ExactCore → CoreEnd

@@ -145,6 +145,6 @@ pub has_run : (turn : Turn) (number : ℕ) (ran : Ran) (first last : ExactWorld)
     → IsTally ran.tally last.fabric.journal → HasRun turn number ran
 has_run turn number ran first last start run left =
     let count : length (ring_views number) ≡ length (ring_board turn number).cores =
-        length-map-range_with_len (ring_view number) 0 (cores_of number) ∙ sym (length-map-range_with_len ring_core 0 (cores_of number)) in
+    length-map-range_with_len (ring_view number) 0 (cores_of number) ∙ sym (length-map-range_with_len ring_core 0 (cores_of number)) in
     let runs = run_of (ring_board turn number) (ring_views number) no_inputs 1_048_576 10_000_000 last ran.end count (subst (λ x. ExactRun 10_000_000 x last ran.end) start run) in
     record { last = last; runs = runs; left = left; network = runs.is_run.network (is_network turn number) }

@@ -26,7 +26,7 @@ pub record HasRun (turn : Turn) (number : ℕ) (ran : Ran) : Type 0 where
   pub runs : IsRunOf (ring_board turn number) (ring_views number) no_inputs 1_048_576 10_000_000 last ran.end
   pub left : IsTally ran.tally last.fabric.journal
   -- each link carried a prefix of the reference network's history, and at rest all of it
-  pub network : FollowsNetwork (ring_board turn number) (ring_views number) no_inputs runs.open
+  pub network : FollowsNetwork (ring_board turn number) (ring_views number) no_inputs runs.open_last
 
 -- a run in each order
 pub record HasRuns (number : ℕ) (runs : Runs) : Type 0 where
