@@ -32,7 +32,7 @@ def is_number(value):
 
 
 def is_memory(value):
-    return is_number(value) and value % 4096 == 0 and 4096 <= value <= 1_048_576
+    return is_number(value) and value % 4096 == 0 and 4096 <= value <= 67_108_864
 
 
 def value_code(key, value, cores):

@@ -41,7 +41,7 @@ is_number quantity.Base n = nat_le n 4_294_963_200 && n % 4096 == 0
 is_number quantity.Clock n = nat_le 1 n && nat_le n 1_000_000
 is_number quantity.Depth n = nat_le 1 n && nat_le n 4096
 is_number quantity.Cycle n = nat_le n 1_000_000_000_000
-is_number quantity.Memory n = nat_le 4096 n && nat_le n 1_048_576 && n % 4096 == 0
+is_number quantity.Memory n = nat_le 4096 n && nat_le n 67_108_864 && n % 4096 == 0
 
 -- the code of a number that is none of them
 unfoldable pub number_code : Quantity → BoardRule

@@ -47,7 +47,7 @@ fn is_number_of(quantity: Quantity, number: u64) -> bool
         Quantity::Clock => 1 <= number && number <= 1_000_000,
         Quantity::Depth => 1 <= number && number <= 4096,
         Quantity::Cycle => number <= 1_000_000_000_000,
-        Quantity::Memory => 4096 <= number && number <= 1_048_576 && number % 4096 == 0,
+        Quantity::Memory => 4096 <= number && number <= 67_108_864 && number % 4096 == 0,
     }
 }
 

@@ -409,8 +409,8 @@ fn numbers_and_names(rt: HostRuntime) -> Result<(), Fail> {
             ("core.a.memory = -4096\n", 619, "core.a.memory"),
             ("core.a.memory = 4096\n", 0, ""),
             ("core.a.memory = 4097\n", 619, "core.a.memory"),
-            ("core.a.memory = 1048576\n", 0, ""),
-            ("core.a.memory = 1052672\n", 619, "core.a.memory"),
+            ("core.a.memory = 67108864\n", 0, ""),
+            ("core.a.memory = 67112960\n", 619, "core.a.memory"),
             (
                 "core.a.memory = 9223372036854775807\n",
                 619,

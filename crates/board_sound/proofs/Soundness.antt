@@ -68,7 +68,7 @@ few_serials : (n : ℕ) → are_few rows.Uart n ≡ true → n ≤ 64
 unfolding are_few
 few_serials n e = grind arith
 
--- 16 memories of at most 1 MiB
+-- 16 memories of at most 64 MiB
 sum_within : (f : CoreRow → ℕ) (m : ℕ) (xs : List CoreRow) → ((k : ℕ) (x : CoreRow) → slice_get xs k ≡ Some x → f x ≤ m) → sum_by f xs ≤ length xs * m
 sum_within f m [] h = omega arith
 sum_within f m (x ∷ xs) h =
@@ -80,7 +80,7 @@ sum_within f m (x ∷ xs) h =
     nlinear : (a s n m : ℕ) → a ≤ m → s ≤ n * m → a + s ≤ suc n * m
     nlinear a s n m g i = omega (arith, g, i)
 
-affordable : (n s : ℕ) → s ≤ n * 1048576 → n ≤ 16 → s ≤ 1073741824
+affordable : (n s : ℕ) → s ≤ n * 67108864 → n ≤ 16 → s ≤ 1073741824
 affordable n s e g = omega (arith, e, g)
 
 -- the names of rows ascend as those of their members do
@@ -113,7 +113,7 @@ read_is_sound file b h =
       few_links = rw (sym links) at (few_ends _ parts.links.few);
       clocks = λ k core e. let o = core_from k core e in core_clock [] o.name o.members core o.made;
       memories = memories;
-      total = affordable (length b.cores) _ (sum_within (λ core. core.memory) 1048576 b.cores (λ k core e. (memories k core e).1)) few_cores;
+      total = affordable (length b.cores) _ (sum_within (λ core. core.memory) 67108864 b.cores (λ k core e. (memories k core e).1)) few_cores;
       depths = λ k link e. let o = link_from k link e in link_depth b.cores o.name o.members link o.made;
       ports = λ k link e. let o = link_from k link e in (from_port b.cores o.name o.members link o.made, to_port b.cores o.name o.members link o.made);
       one_file = λ k link f g e from to.

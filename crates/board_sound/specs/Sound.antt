@@ -17,9 +17,9 @@ use Rattle.board_file.specs.declared.board.UartRow.{UartRow}
 abbrev pub IsClock : ℕ → Type 0
 IsClock n = (1 ≤ n) × (n ≤ 1000000)
 
--- a memory has whole pages of 4,096 bytes, up to 1,048,576 bytes
+-- a memory has whole pages of 4,096 bytes, up to 67,108,864 bytes
 abbrev pub IsMemory : ℕ → Type 0
-IsMemory size = (4096 ≤ size) × (size ≤ 1048576) × (size % 4096 ≡ 0)
+IsMemory size = (4096 ≤ size) × (size ≤ 67108864) × (size % 4096 ≡ 0)
 
 -- a link holds 1 to 4,096 items
 abbrev pub IsDepth : ℕ → Type 0

@@ -2,13 +2,13 @@
 use Rattle.std.proofs.Common.{arith, ap, sym, refl, ◌∙◌, ℕ, ◌≡◌, ◌+◌, ◌*◌, ◌/◌, ◌%◌, ◌≤◌, ◌<◌, suc, List, ◌∷◌, [], ◌++◌, length, take, drop, slice_range, slice_get, replicate, zero, Some, None}
 use Rattle.std.specs.List.{concat, All}
 use Rattle.std.proofs.Math.ListN.{get_or, set}
-use Rattle.std.proofs.lemmas.List.{length-append, length-take-le, get_or-append-add, get_or_append_left, set_split, set-get_or, replicate-append-replicate}
+use Rattle.std.proofs.lemmas.List.{length-append, length-take-le, get_or-append-add, get_or_append_left, set_split, set-get_or, replicate-append-replicate, append-nil, drop_all}
 use Rattle.std.proofs.lemmas.List.Elements.{All-take}
 use Rattle.std.proofs.lemmas.List.Folds.{concat-append}
 use Rattle.std.proofs.lemmas.Option.{slice_get-get_or, slice_get_past}
 use Rattle.byte_mem.specs.Access.{overwritten}
 use Rattle.byte_mem.specs.Words.{IsWord}
-use Rattle.byte_mem.proofs.Overwriting.{range_inside, overwritten_inside, sets_overwrite}
+use Rattle.byte_mem.proofs.Overwriting.{range_inside, overwritten_inside, overwritten_within}
 
 rest_whole : (w : List ℕ) (ws : List (List ℕ)) → All IsWord (w ∷ ws) → All IsWord ws
 rest_whole w ws whole k d within = whole (suc k) d (omega arith)
@@ -60,14 +60,16 @@ overwritten_joined ws addr bytes d whole within inside =
     ∙ ap (λ a. overwritten (before ws addr ++ (get_or ws (addr / 4) d ++ after ws addr)) a bytes) (length_before ws addr whole within)
     ∙ ap (λ m. overwritten m addr bytes) (sym (parts ws addr d within))
 
-pub set_joined : (ws : List (List ℕ)) (addr byte : ℕ) (d : List ℕ) → All IsWord ws → addr / 4 < length ws
-    → concat (set ws (addr / 4) (set (get_or ws (addr / 4) d) (addr % 4) byte)) ≡ set (concat ws) addr byte
-set_joined ws addr byte d whole within =
-    let four : length (get_or ws (addr / 4) d) ≡ 4 = whole (addr / 4) d within in
-    let long = length_joined ws whole in
-    ap (λ w. concat (set ws (addr / 4) w)) (sets_overwrite (get_or ws (addr / 4) d) (addr % 4) (byte ∷ []) (omega arith))
-    ∙ overwritten_joined ws addr (byte ∷ []) d whole within (omega arith)
-    ∙ sym (sets_overwrite (concat ws) addr (byte ∷ []) (omega arith))
+pub word_joined : (ws : List (List ℕ)) (k : ℕ) (w : List ℕ) → All IsWord ws → length w ≡ 4 → k < length ws
+    → concat (set ws k w) ≡ overwritten (concat ws) (4 * k) w
+word_joined ws k w whole four within =
+    let old : List ℕ = get_or ws k w in
+    let long : length old ≡ 4 = whole k w within in
+    let quotient : 4 * k / 4 ≡ k = omega arith in
+    let rest : 4 * k % 4 ≡ 0 = omega arith in
+    let all : overwritten old 0 w ≡ w = overwritten_within old 0 w (omega arith) ∙ ap (λ t. w ++ t) (drop_all (0 + length w) old (omega arith)) ∙ append-nil w in
+    let there = overwritten_joined ws (4 * k) w w whole (omega arith) (omega arith) in
+    ap (λ v. concat (set ws k v)) (sym all) ∙ (rw (quotient, rest) at there)
 
 pub get_joined : (ws : List (List ℕ)) (addr : ℕ) (d : List ℕ) → All IsWord ws → addr / 4 < length ws
     → slice_get (concat ws) addr ≡ Some (get_or (get_or ws (addr / 4) d) (addr % 4) 0)

@@ -1,9 +1,11 @@
 //! A memory, kept as words.
 ghost use Rattle.byte_mem.specs.Access.{bytes_of, fits, loaded, overwritten, stored};
 ghost use Rattle.byte_mem.specs.Sizes.{IsFaultOf, IsSize};
-ghost use Rattle.std.specs.Prelude.{length, replicate, slice_get, slice_set, IfErr, IfOk, IsOk, IsTrue, ◌≡◌, ◌%◌, ◌<◌, ◌↔◌};
+ghost use Rattle.std.specs.List.{concat};
+ghost use Rattle.std.specs.Prelude.{length, replicate, slice_get, IfErr, IfOk, IsOk, IsTrue, [], ◌∷◌, ◌≡◌, ◌%◌, ◌*◌, ◌+◌, ◌<◌, ◌≤◌, ◌↔◌};
 
-use crate::lanes::{read_lanes, write_lanes};
+use crate::lanes::{Word, read_lanes};
+use crate::pages::Pages;
 use core_regs::{Order, Size};
 use std::alloc::Global;
 use std::marker::Model;
@@ -12,7 +14,7 @@ use std::marker::Model;
 const PAGE: u64 = 4096;
 
 /// The bytes of the largest memory.
-const MAX_SIZE: u64 = 1_048_576;
+const MAX_SIZE: u64 = 67_108_864;
 
 /// The address of an access of which a byte lies past the end of the memory.
 #[derive(Clone, Copy, PartialEq, Eq, Debug)]
@@ -21,7 +23,7 @@ pub struct Outside(pub u32);
 /// Why a memory was not made.
 #[derive(Clone, Copy, PartialEq, Eq, Debug)]
 pub enum MemoryFault {
-    /// The size isn't a multiple of 4,096 bytes from 4,096 to 1,048,576.
+    /// The size isn't a multiple of 4,096 bytes from 4,096 to 67,108,864.
     BadSize(u64),
     /// There was no memory for the bytes.
     NoMemory,
@@ -32,8 +34,7 @@ pub enum MemoryFault {
 /// All that it needs is taken by `new`: no other call takes memory.
 #[derive(Drop)]
 pub struct Memory {
-    // Each word is its four bytes in the order of their addresses, so that an aligned access meets one word.
-    words: Vec<[u8; 4]>,
+    words: Pages,
 }
 
 impl Model for Memory {
@@ -43,15 +44,15 @@ impl Model for Memory {
 
     ghost Value = { List ℕ };
 
-    ghost view = { λ m. concat m.words.items };
+    ghost view = { λ m. concat m.words };
 
-    ghost invariant = { λ m. IsMemory m.words.items };
+    ghost invariant = { λ m. IsMemory m.words };
 }
 
 impl Memory {
     /// Makes a memory of `size` bytes, all 0.
     ///
-    /// `BadSize` comes exactly where `size` isn't a multiple of 4,096 from 4,096 to 1,048,576, and `NoMemory` only for
+    /// `BadSize` comes exactly where `size` isn't a multiple of 4,096 from 4,096 to 67,108,864, and `NoMemory` only for
     /// want of memory.
     pub fn new(alloc: Global, size: u64) -> Result<Memory, MemoryFault>
         ensures made { IfOk result (λ m. (m ≡ replicate size 0) × IsSize size) }
@@ -60,7 +61,7 @@ impl Memory {
         if size < PAGE || size > MAX_SIZE || size % PAGE != 0 {
             return Err(MemoryFault::BadSize(size));
         }
-        match vec![in alloc; [0; 4]; (size / 4) as usize] {
+        match Pages::zeros(alloc, (size / PAGE) as usize) {
             Ok(words) => Ok(Memory { words }),
             Err(_) => Err(MemoryFault::NoMemory),
         }
@@ -93,7 +94,7 @@ impl Memory {
     {
         let at = addr as usize;
         match self.words.get(at / 4) {
-            Some(word) => Ok(read_lanes(*word, at % 4, size, order)),
+            Some(word) => Ok(read_lanes(word, at % 4, size, order)),
             None => Err(Outside(addr)),
         }
     }
@@ -109,7 +110,7 @@ impl Memory {
     {
         let at = addr as usize;
         if at / 4 < self.words.len() {
-            write_lanes(&mut self.words[at / 4], at % 4, size, order, value);
+            self.words.write(at / 4, at % 4, size, order, value);
             Ok(())
         } else {
             Err(Outside(addr))
@@ -129,17 +130,53 @@ impl Memory {
         if bytes.len() > (self.size() as usize).saturating_sub(at) {
             return Err(Outside(addr));
         }
+        if bytes.is_empty() {
+            return Ok(());
+        }
+        let (head, rest) = bytes.split_at(bytes.len().min((4 - at % 4) % 4));
+        let (words, tail) = rest.as_chunks::<4>();
+        self.copy_bytes(at, head);
+        self.copy_words(at + head.len(), words);
+        self.copy_bytes(at + head.len() + 4 * words.len(), tail);
+        Ok(())
+    }
+
+    /// Copies bytes to the addresses from `at` on.
+    fn copy_bytes(&mut self, at: usize, bytes: &[u8])
+        requires within { at + length bytes.now ≤ length self.old }
+        requires small { length self.old ≤ 67108864 }
+        ensures { self.new ≡ overwritten self.old at bytes.now }
+    {
         for (k, &byte) in bytes.iter().enumerate() {
             self.set_byte(at + k, byte);
         }
-        Ok(())
+    }
+
+    /// Copies the bytes of words to the addresses from `at` on.
+    fn copy_words(&mut self, at: usize, words: &[Word])
+        requires aligned { 0 < length words.now → at % 4 ≡ 0 }
+        requires within { at + 4 * length words.now ≤ length self.old }
+        ensures { self.new ≡ overwritten self.old at (concat words.now) }
+    {
+        for (k, word) in words.iter().enumerate() {
+            self.set_word(at / 4 + k, word);
+        }
     }
 
     /// Writes the byte at an address.
     fn set_byte(&mut self, at: usize, byte: u8)
         requires { at < length self.old }
-        ensures { self.new ≡ slice_set self.old at byte }
+        ensures { self.new ≡ overwritten self.old at (byte ∷ []) }
     {
-        self.words[at / 4][at % 4] = byte;
+        self.words
+            .write(at / 4, at % 4, Size::Byte, Order::Big, u32::from(byte));
+    }
+
+    /// Writes the bytes of word `k`.
+    fn set_word(&mut self, k: usize, word: &Word)
+        requires { 4 * k + 4 ≤ length self.old }
+        ensures { self.new ≡ overwritten self.old (4 * k) word.now }
+    {
+        self.words.set(k, *word);
     }
 }

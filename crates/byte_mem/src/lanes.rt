@@ -4,6 +4,9 @@ ghost use Rattle.std.specs.Prelude.{slice_range, ◌≡◌, ◌+◌, ◌≤◌};
 
 use core_regs::{Order, Size};
 
+/// The four bytes of a word in the order of their addresses, so that an aligned access meets one word.
+pub(crate) type Word = [u8; 4];
+
 /// How many bytes an access has.
 #[inline(always)]
 pub fn bytes_of(size: Size) -> u32
@@ -18,7 +21,7 @@ pub fn bytes_of(size: Size) -> u32
 }
 
 /// The number that `size` bytes from place `at` on stand for.
-pub(crate) fn read_lanes(word: [u8; 4], at: usize, size: Size, order: Order) -> u32
+pub(crate) fn read_lanes(word: Word, at: usize, size: Size, order: Order) -> u32
     requires { at + bytes_of size ≤ 4 }
     ensures { result ≡ number order size (slice_range word at (at + bytes_of size)) }
 {
@@ -32,7 +35,7 @@ pub(crate) fn read_lanes(word: [u8; 4], at: usize, size: Size, order: Order) -> 
 }
 
 /// Writes the low bytes of `value` from place `at` on.
-pub(crate) fn write_lanes(word: &mut [u8; 4], at: usize, size: Size, order: Order, value: u32)
+pub(crate) fn write_lanes(word: &mut Word, at: usize, size: Size, order: Order, value: u32)
     requires { at + bytes_of size ≤ 4 }
     ensures { word.new ≡ overwritten word.old at (encoded order size value) }
 {
@@ -58,7 +61,7 @@ fn half_bytes(order: Order, half: u16) -> [u8; 2]
 }
 
 /// The bytes of a word, in the order of their addresses.
-fn word_bytes(order: Order, word: u32) -> [u8; 4]
+fn word_bytes(order: Order, word: u32) -> Word
     ensures { result ≡ encoded order Size.Word word }
 {
     match order {

@@ -1,7 +1,8 @@
 //! The private memory of a core: bytes by address, read and written in either byte order.
 //!
-//! A `Memory` has from 4,096 to 1,048,576 bytes, of 0 at first; contracts see it as the list of its bytes. An access of a
-//! `Size` at an address that is a multiple of `bytes_of(size)` reads or writes it, or answers `Outside`.
+//! A `Memory` has from 4,096 to 67,108,864 bytes, of 0 at first; contracts see it as the list of its bytes. It keeps them as
+//! pages of 1,024 words, all taken by `new`. An access of a `Size` at an address that is a multiple of `bytes_of(size)`
+//! reads or writes it, or answers `Outside`.
 //!
 //! ```text
 //! let mut memory = Memory::new(rt.alloc(), 4_096)?;
@@ -13,6 +14,7 @@
 mod bytes;
 mod lanes;
 mod laws;
+mod pages;
 
 pub use bytes::{Memory, MemoryFault, Outside};
 pub use lanes::bytes_of;
