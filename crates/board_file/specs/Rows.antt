@@ -1,5 +1,5 @@
 -- The board of a tree: each row of each table by its keys.
-use Rattle.std.specs.Prelude.{ℕ, Bool, ⊤, ◌≡◌, nat_lt, List, [], ◌∷◌, ◌++◌, position, Option, Some, None, option_and_then, option_to_list, unwrap_or}
+use Rattle.std.specs.Prelude.{ℕ, Bool, false, ⊤, ◌≡◌, ◌==◌, ◌&&◌, nat_lt, List, [], ◌∷◌, ◌++◌, position, Option, Some, None, option_and_then, option_to_list, unwrap_or}
 use Rattle.std.specs.Str.{bytes_eq}
 use Rattle.toml.specs.Data.{Members, as_str, as_table, no_members, member}
 use Rattle.board_file.specs.Read.{break_in, file_at, name_of, number_at, only_if, pipeline_in, right, turn_in, version_in}
@@ -53,6 +53,11 @@ from_end cores ms = end_made (core_at cores key.From ms) (number_at quantity.Por
 
 unfoldable pub to_end : List CoreRow → Members → Option End
 to_end cores ms = end_made (core_at cores key.To ms) (number_at quantity.Port key.ToPort ms) (file_at key.ToFile ms)
+
+-- the end of a link is that port of that core
+abbrev pub is_port : ℕ → ℕ → End → Bool
+is_port core port (end.Port c p) = c == core && p == port
+is_port core port (end.File name) = false
 
 -- a link; its depth is 16 where the file doesn't say
 abbrev pub link_made : Option (List ℕ) → ℕ → Option End → Option End → Option LinkRow

@@ -26,6 +26,7 @@ use Rattle.board_file.specs.declared.board.EventRow.{EventRow}
 use Rattle.board_file.specs.declared.board.IntcRow.{IntcRow}
 use Rattle.board_file.specs.declared.board.LinkRow.{LinkRow}
 use Rattle.bus_map.specs.declared.device.Access.TheVariants.{Read as ReadAt, Write as WriteAt}
+pub use Rattle.board_file.specs.Rows.{is_port}
 use Rattle.board_machine.specs.Places.{touch}
 use Rattle.board_machine.specs.Bus.{DeviceRows, Devices, accessed_at, answer_at, offset_in, spot_at}
 
@@ -51,10 +52,6 @@ pub record Fabric : Type 0 where
   pub spare : ℕ
 
 -- what a core sees
-
-abbrev pub is_port : ℕ → ℕ → End → Bool
-is_port core port (Port c p) = c == core && p == port
-is_port core port (File name) = false
 
 -- the link that leads to a port of a core, and the one that leads from it
 abbrev pub link_to : List LinkRow → ℕ → ℕ → Option ℕ

@@ -35,7 +35,7 @@ use Rattle.command_words.proofs.Filled.{same_text}
 use Rattle.output_names.specs.Apart.{IsNoOutput}
 use Rattle.output_names.proofs.Apart.{outputs_apart}
 use Rattle.run_output.proofs.InOrder.{tells}
-use Rattle.run_output.specs.Stored.{Wrote}
+use Rattle.piece_output.specs.Stored.{Wrote}
 use Rattle.run_output.specs.declared.outputs.OutputFault.TheVariants as output
 use Rattle.run_output.specs.Outputs.{AreApart, Output, WroteAll, WroteOutputs, outputs_of}
 use Rattle.run_output.specs.Report.{report_text}

@@ -6,16 +6,16 @@ use Rattle.host_io.specs.declared.faults.StoreFault.{StoreFault}
 use Rattle.host_io.specs.declared.faults.StoreFault.TheVariants.{Failed, NoMemory}
 use Rattle.host_io.specs.declared.faults.ShelfFaults.{ShelfFaults}
 use Rattle.host_io.specs.Outside.{Files, ShelfState, WhereTold, CountsWriteFault}
-use Rattle.run_output.specs.Stored.{Holds, MayHoldPart, Wrote}
+use Rattle.piece_output.specs.Stored.{Holds, MayHoldPart, Wrote}
 use Rattle.run_output.specs.declared.outputs.OutputFault.{OutputFault}
 use Rattle.run_output.specs.declared.outputs.OutputFault.TheVariants as fault
 use Rattle.std.specs.List.{enumerate_from}
 use Rattle.std.proofs.lemmas.List.{take_all}
 use Rattle.std.proofs.lemmas.List.FromFn.{length-enumerate_from}
-use Rattle.run_output.proofs.Joined.{pieces_next, pieces_all}
+use Rattle.piece_output.proofs.Added.{pieces_next, pieces_all}
 use Rattle.run_output.proofs.Printing.{numbered}
 use Rattle.run_output.specs.Outputs.{Output, WroteOutputs, WroteAll, AreApart, IsAsBeforeOrPart, Leaves, Tells, WritingsAreTold}
-use Rattle.run_output.proofs.Written.{told_map, told_twice}
+use Rattle.piece_output.proofs.Written.{told_map, told_twice}
 
 -- files that were written, and then more of them
 pub wrote_more : (old mid new : ShelfState) (front behind : List Output) (result : Result ⊤ StoreFault) → WroteAll old mid front (Ok tt)

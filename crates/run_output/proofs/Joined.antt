@@ -1,31 +1,11 @@
 -- A file that is written piece by piece.
-use Rattle.std.proofs.Common.{◌≡◌, ℕ, suc, ◌+◌, ◌≤◌, length, List, [], ◌∷◌, ◌++◌, take, drop, get_or, slice_get, flat_map, Some, Err, sym, ap, subst, ◌∙◌, arith, append_assoc, append-nil}
-use Rattle.std.proofs.lemmas.List.{take-append-drop, take_all}
-use Rattle.std.proofs.lemmas.List.Concat.{flat_map-append}
-use Rattle.std.proofs.lemmas.Option.{slice_get_within, get_or_from_slice_get}
-use Rattle.std.proofs.Math.Seq.{take-suc}
+use Rattle.std.proofs.Common.{◌≡◌, ℕ, ◌+◌, ◌≤◌, length, List, ◌++◌, take, drop, slice_get, flat_map, Some, Err, sym, ap, subst, ◌∙◌, append_assoc, append-nil}
+use Rattle.std.proofs.lemmas.List.{take_all}
 use Rattle.host_io.specs.declared.faults.StoreFault.{StoreFault}
 use Rattle.host_io.specs.Outside.{ShelfState}
-use Rattle.run_output.specs.Stored.{Wrote, IsWriting}
-use Rattle.run_output.proofs.Written.{failed_longer}
-
--- the pieces before an item, and its own
-pub pieces_next : {X Y : Type 0} (f : X → List Y) (xs : List X) (k : ℕ) (x : X) → slice_get xs k ≡ Some x
-    → flat_map f (take (k + 1) xs) ≡ flat_map f (take k xs) ++ f x
-pieces_next f xs k x at =
-    let one : k + 1 ≡ suc k = omega arith in
-    ap (λ n. flat_map f (take n xs)) one
-    ∙ ap (flat_map f) (take-suc xs k x (slice_get_within xs k x at))
-    ∙ flat_map-append f (take k xs) (get_or xs k x ∷ [])
-    ∙ ap (λ ys. flat_map f (take k xs) ++ ys) (append-nil (f (get_or xs k x)) ∙ ap f (get_or_from_slice_get xs k x x at))
-
--- and those behind it
-pub pieces_all : {X Y : Type 0} (f : X → List Y) (xs : List X) (k : ℕ) (x : X) → slice_get xs k ≡ Some x
-    → flat_map f xs ≡ (flat_map f (take k xs) ++ f x) ++ flat_map f (drop (k + 1) xs)
-pieces_all f xs k x at =
-    ap (flat_map f) (sym (take-append-drop (k + 1) xs))
-    ∙ flat_map-append f (take (k + 1) xs) (drop (k + 1) xs)
-    ∙ ap (λ ys. ys ++ flat_map f (drop (k + 1) xs)) (pieces_next f xs k x at)
+use Rattle.piece_output.specs.Stored.{Wrote, IsWriting}
+use Rattle.piece_output.proofs.Added.{pieces_next, pieces_all}
+use Rattle.piece_output.proofs.Written.{failed_longer}
 
 -- the piece of one more item was added
 pub piece_added : {X : Type 0} (old now : ShelfState) (name buffer done piece : List ℕ) (f : X → List ℕ) (xs : List X) (k : ℕ) (x : X)

@@ -1,65 +1,13 @@
 -- Texts that are written one after another.
 use Rattle.std.specs.Prelude.{⊤}
-use Rattle.std.specs.Io.KnownBytes.{append_known}
-use Rattle.std.proofs.Common.{◌≡◌, ℕ, ◌+◌, ◌≤◌, ◌<◌, List, [], ◌++◌, length, take, drop, get_or, slice_get, flat_map, Option, Some, None, Result, Ok, Err, refl, sym, ap, subst, ◌∙◌, arith, append_assoc, append-nil, length-append}
+use Rattle.std.proofs.Common.{◌≡◌, ℕ, ◌+◌, ◌≤◌, ◌<◌, List, ◌++◌, length, take, drop, get_or, slice_get, flat_map, Some, Result, Ok, Err, sym, ap, subst, ◌∙◌, arith}
 use Rattle.std.specs.List.{enumerate_from}
-use Rattle.std.proofs.lemmas.List.{take-append-le, take_all}
+use Rattle.std.proofs.lemmas.List.{take_all}
 use Rattle.std.proofs.lemmas.List.FromFn.{get_or-enumerate_from, length-enumerate_from}
 use Rattle.std.proofs.lemmas.Option.{slice_get-get_or}
-use Rattle.std.proofs.Math.Seq.{take-append-add}
 use Rattle.host_io.specs.declared.faults.StoreFault.{StoreFault}
-use Rattle.host_io.specs.declared.faults.StoreFault.TheVariants.{Failed, NoMemory}
-use Rattle.host_io.specs.Outside.{SinkState, Adds, AddsPrefix, Counted}
-use Rattle.run_output.proofs.Joined.{pieces_next, pieces_all}
-
-append_known_twice : (known : Option (List ℕ)) (xs ys : List ℕ) → append_known (append_known known xs) ys ≡ append_known known (xs ++ ys)
-append_known_twice None xs ys = refl
-append_known_twice (Some bytes) xs ys = ap Some (append_assoc bytes xs ys)
-
-append_known_nothing : (known : Option (List ℕ)) → known ≡ append_known known []
-append_known_nothing None = refl
-append_known_nothing (Some bytes) = ap Some (sym (append-nil bytes))
-
-whole : (old mid new : Option (List ℕ)) (front behind : List ℕ) → mid ≡ append_known old front → new ≡ append_known mid behind
-    → new ≡ append_known old (front ++ behind)
-whole old mid new front behind before after =
-    after ∙ ap (λ known. append_known known behind) before ∙ append_known_twice old front behind
-
-prefix_after : (old mid new : Option (List ℕ)) (front behind : List ℕ) → mid ≡ append_known old front → AddsPrefix mid new behind
-    → AddsPrefix old new (front ++ behind)
-prefix_after old mid new front behind before (k, within, added) = (
-  length front + k,
-  (let total : length (front ++ behind) ≡ length front + length behind = length-append front behind in omega arith),
-  whole old mid new front (take k behind) before added ∙ ap (append_known old) (sym (take-append-add front behind k)),
-)
-
-prefix_longer : (old new : Option (List ℕ)) (front behind : List ℕ) → AddsPrefix old new front → AddsPrefix old new (front ++ behind)
-prefix_longer old new front behind (k, within, added) = (
-  k,
-  (let total : length (front ++ behind) ≡ length front + length behind = length-append front behind in omega arith),
-  added ∙ ap (append_known old) (sym (take-append-le k front behind within)),
-)
-
--- nothing was written
-pub adds_nothing : (old : SinkState) → Adds old old [] (Ok tt)
-adds_nothing old = (append_known_nothing old.written, refl)
-
--- a text, and then another
-pub adds_then : (old mid new : SinkState) (front behind : List ℕ) (result : Result ⊤ StoreFault) → Adds old mid front (Ok tt)
-    → Adds mid new behind result → Adds old new (front ++ behind) result
-adds_then old mid new front behind (Ok done) (written, quiet) (more, still) =
-    (whole old.written mid.written new.written front behind written more, still ∙ quiet)
-adds_then old mid new front behind (Err Failed) (written, quiet) (part, counted) =
-    let P : ℕ → Type 0 = λ n. Counted n new.faults in
-    (prefix_after old.written mid.written new.written front behind written part, subst P quiet counted)
-adds_then old mid new front behind (Err NoMemory) (written, quiet) (part, still) =
-    (prefix_after old.written mid.written new.written front behind written part, still ∙ quiet)
-
--- a text that was refused, and another that did not come
-pub adds_cut : (old new : SinkState) (front behind : List ℕ) (fault : StoreFault) → Adds old new front (Err fault)
-    → Adds old new (front ++ behind) (Err fault)
-adds_cut old new front behind Failed (part, counted) = (prefix_longer old.written new.written front behind part, counted)
-adds_cut old new front behind NoMemory (part, quiet) = (prefix_longer old.written new.written front behind part, quiet)
+use Rattle.host_io.specs.Outside.{SinkState, Adds}
+use Rattle.piece_output.proofs.Added.{adds_cut, adds_then, pieces_next, pieces_all}
 
 -- a row beside its number
 pub numbered : {X : Type 0} (xs : List X) (k : ℕ) (x : X) → k < length xs → x ≡ get_or xs k x → slice_get (enumerate_from 0 xs) k ≡ Some (k, x)

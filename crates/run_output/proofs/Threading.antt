@@ -14,8 +14,8 @@ use Rattle.run_journal.specs.declared.entry.What.{What}
 use Rattle.run_journal.specs.declared.entry.What.TheVariants.{Got, HostGot, Left}
 use Rattle.run_output.specs.declared.pieces.Exit.{Exit}
 use Rattle.run_output.specs.declared.pieces.Exit.TheVariants.{Link, Uart}
-use Rattle.run_output.specs.Stored.{IsWriting, Wrote}
-use Rattle.run_output.proofs.Written.{failed_longer}
+use Rattle.piece_output.specs.Stored.{IsWriting, Wrote}
+use Rattle.piece_output.proofs.Written.{failed_longer}
 use Rattle.run_output.specs.Threads.{Knows, Lie, Threaded, bare, bytes_at, file_of, from_first, head_of, headed, last_of, leaves_by, next_of, threaded, through}
 use Rattle.std.proofs.Math.ListN.{get_or-append}
 use Rattle.std.proofs.Math.Seq.{drop-cons, drop-length, get_or-append_seam}

@@ -1,26 +1,21 @@
 -- What the entries of a run say of a link and of a UART: how many items went in and out, and how many bytes left.
-use Rattle.std.specs.Prelude.{ℕ, ◌==◌, ◌&&◌, Bool, false, List, length, filter}
+use Rattle.std.specs.Prelude.{ℕ, ◌==◌, Bool, false, List, length, filter}
 use Rattle.board_file.specs.declared.board.End.{End}
-use Rattle.board_file.specs.declared.board.End.TheVariants.{Port, File}
 use Rattle.board_file.specs.declared.board.LinkRow.{LinkRow}
+use Rattle.board_file.specs.Rows.{is_port}
 use Rattle.run_journal.specs.declared.entry.Entry.{Entry}
 use Rattle.run_journal.specs.declared.entry.What.{What}
 use Rattle.run_journal.specs.declared.entry.What.TheVariants.{Got, Sent, HostSent, HostGot, Left}
 
--- the end of a link is that port of that core
-abbrev pub is_port : End → ℕ → ℕ → Bool
-is_port (Port core port) c p = core == c && port == p
-is_port (File name) c p = false
-
 -- an item went into the link of that number: a core sent it at the port that it comes from, or the host did
 abbrev pub puts_in : ℕ → End → ℕ → What → Bool
-puts_in link from core (Sent port item) = is_port from core port
+puts_in link from core (Sent port item) = is_port core port from
 puts_in link from core (HostSent l item) = l == link
 puts_in link from core _ = false
 
 -- an item came out of the link of that number: a core got it at the port that it leads to, or the host did
 abbrev pub takes_out : ℕ → End → ℕ → What → Bool
-takes_out link to core (Got port item) = is_port to core port
+takes_out link to core (Got port item) = is_port core port to
 takes_out link to core (HostGot l item) = l == link
 takes_out link to core _ = false
 

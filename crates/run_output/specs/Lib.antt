@@ -1,5 +1,4 @@
 pub mod Threads
-pub mod Stored
 pub mod Outputs
 pub mod Texts
 pub mod Counts

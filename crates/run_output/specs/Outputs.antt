@@ -13,7 +13,7 @@ use Rattle.run_journal.specs.declared.entry.Entry.{Entry}
 use Rattle.run_journal.specs.Files.{link_file, uart_file}
 use Rattle.run_output.specs.declared.outputs.OutputFault.{OutputFault}
 use Rattle.run_output.specs.declared.outputs.OutputFault.TheVariants as fault
-use Rattle.run_output.specs.Stored.{Wrote}
+use Rattle.piece_output.specs.Stored.{Wrote}
 use Rattle.run_output.specs.Texts.{journal_text}
 
 -- a file that is to be written: its name and its bytes

@@ -1,7 +1,7 @@
 //! Output files, written by chunks through one buffer.
 ghost use Rattle.std.specs.Prelude.{◌≡◌, ◌+◌, ◌≤◌, IfOk, List, ℕ, [], ◌++◌, flat_map, length};
 ghost use Rattle.host_io.specs.Outside.{Appends, ShelfState};
-ghost use Rattle.run_output.specs.Stored.{Continues, IsWriting, Wrote};
+ghost use Rattle.piece_output.specs.Stored.{Continues, IsWriting, Wrote};
 ghost use Rattle.run_output.specs.Texts.{journal_text};
 ghost use Rattle.run_output.specs.Threads.{Knows, Lie, file_of, through};
 

@@ -3,7 +3,7 @@ ghost use Rattle.std.specs.Prelude.{◌≡◌, ◌+◌, ◌≤◌, [], ◌∷◌
 ghost use Rattle.std.specs.List.{enumerate_from};
 ghost use Rattle.host_io.specs.Outside.{ShelfState};
 ghost use Rattle.run_output.specs.Outputs.{WroteOutputs, output_of_journal, output_of_link, output_of_uart, outputs_of};
-ghost use Rattle.run_output.specs.Stored.{Wrote};
+ghost use Rattle.piece_output.specs.Stored.{Wrote};
 ghost use Rattle.run_output.specs.Threads.{Lie};
 
 use crate::chunks::Chunks;

@@ -4,7 +4,8 @@ use Rattle.std.proofs.lemmas.Result.{err_from_is_err_and}
 use Rattle.run_output.specs.Report.{status_line, core_lines, link_lines, uart_lines, report_text}
 use Rattle.run_output.specs.Tally.{counted_link_line, counted_uart_line}
 use Rattle.run_output.proofs.Tallying.{fit_of, link_lines_of, uart_lines_of}
-use Rattle.run_output.proofs.Printing.{adds_of, adds_then, adds_cut}
+use Rattle.run_output.proofs.Printing.{adds_of}
+use Rattle.piece_output.proofs.Added.{adds_cut, adds_then}
 use Rattle.run_output.proofs.print.print_report.Goals as goal
 
 pub returns-in_err-print_status : goal.returns-in_err-print_status

@@ -1,6 +1,6 @@
 use Rattle.std.proofs.Common.{ℕ, List, ◌++◌, flat_map, take}
 use Rattle.host_io.specs.Outside.{ShelfState}
-use Rattle.run_output.specs.Stored.{IsWriting}
+use Rattle.piece_output.specs.Stored.{IsWriting}
 use Rattle.run_output.proofs.chunks.Chunks.add_all.Given as goal
 
 abbrev pub invariant-loop-k : goal.invariant-loop-k

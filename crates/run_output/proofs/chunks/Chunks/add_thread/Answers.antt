@@ -1,7 +1,7 @@
 use Rattle.std.proofs.Common.{◌-◌, ◌++◌, Err, get_or, length, ◌∙◌, arith}
 use Rattle.std.proofs.lemmas.Option.{slice_get-get_or}
 use Rattle.std.proofs.lemmas.Result.{err_from_is_err_and}
-use Rattle.run_output.specs.Stored.{Wrote}
+use Rattle.piece_output.specs.Stored.{Wrote}
 use Rattle.run_output.specs.Threads.{bytes_at, file_of}
 use Rattle.run_output.proofs.Threading.{added_to, at_end, begins, cut_off, gets_near, goes_along, inside, no_entry, nothing_more, stopped_at}
 use Rattle.run_output.proofs.chunks.Chunks.add_thread.Goals as goal

@@ -1,6 +1,6 @@
 use Rattle.std.proofs.Common.{ℕ, List, ◌++◌}
 use Rattle.host_io.specs.Outside.{ShelfState}
-use Rattle.run_output.specs.Stored.{IsWriting}
+use Rattle.piece_output.specs.Stored.{IsWriting}
 use Rattle.run_output.proofs.Threading.{IsAlong}
 use Rattle.run_output.proofs.chunks.Chunks.add_thread.Given as goal
 

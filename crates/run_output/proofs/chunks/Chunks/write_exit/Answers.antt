@@ -2,7 +2,7 @@ use Rattle.std.proofs.Common.{[], Err}
 use Rattle.std.proofs.lemmas.Result.{err_from_is_err_and}
 use Rattle.run_output.specs.Threads.{file_of}
 use Rattle.run_output.proofs.Threading.{early_cut, late_either, late_threads}
-use Rattle.run_output.proofs.Written.{failed_longer}
+use Rattle.piece_output.proofs.Written.{failed_longer}
 use Rattle.run_output.proofs.chunks.Chunks.write_exit.Goals as goal
 
 pub add_thread-requires : goal.add_thread-requires

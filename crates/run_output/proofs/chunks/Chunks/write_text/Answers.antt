@@ -1,7 +1,7 @@
 use Rattle.std.proofs.Common.{[]}
 use Rattle.std.proofs.lemmas.Result.{err_from_is_err_and}
 use Rattle.run_output.specs.Texts.{journal_text}
-use Rattle.run_output.proofs.Written.{failed_longer}
+use Rattle.piece_output.proofs.Written.{failed_longer}
 use Rattle.run_output.proofs.chunks.Chunks.write_text.Goals as goal
 
 pub returns-in_err-start : goal.returns-in_err-start
