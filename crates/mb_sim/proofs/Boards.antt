@@ -67,7 +67,7 @@ prints_out journal board last how shelf shelf' out out' status w (printed a) = a
 prints_out journal board last how shelf shelf' out out' status w (stopped fault a) = report_stops fault w a
 
 -- there is a view for each core
-loaded_count : (files : Option Files) (network : Bool) (rows : List CoreRow) (views : List View) → AreCoresOf files network rows views → length views ≡ length rows
+pub loaded_count : (files : Option Files) (network : Bool) (rows : List CoreRow) (views : List View) → AreCoresOf files network rows views → length views ≡ length rows
 loaded_count files network [] [] h = refl
 loaded_count files network [] (view ∷ views) h = absurd h
 loaded_count files network (row ∷ rows) [] h = absurd h

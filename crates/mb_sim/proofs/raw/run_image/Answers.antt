@@ -1,9 +1,14 @@
-use Rattle.std.proofs.Common.{[], ◌∷◌, refl, subst}
+use Rattle.std.proofs.Common.{[], ◌∷◌, arith, refl, subst}
 use Rattle.exact_machine.specs.Machine.{ExactWorld}
 use Rattle.exact_machine.specs.Runs.{ExactRun}
 use Rattle.mb_sim.specs.Raw.{no_inputs, raw_board, raw_view}
 use Rattle.board_run.proofs.WholeRuns.{run_of}
+use Rattle.ring_demo.proofs.Starting.{can_run}
 use Rattle.mb_sim.proofs.raw.run_image.Goals as goal
+
+pub run-end-requires : goal.run-end-requires
+run-end-requires c =
+    record { can = can_run (raw_board c.args.file.now) (raw_view c.args.image.now ∷ []) no_inputs 1_048_576 c.args.cycles c.in_ok-board.board c.in_ok-board.ensures (omega (arith, c.requires.few)) }
 
 pub returns : goal.returns
 returns c =

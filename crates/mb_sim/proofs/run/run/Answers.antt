@@ -1,12 +1,27 @@
-use Rattle.std.proofs.Common.{◌≡◌, ℕ, List, map, refl, sym, ap, subst}
+use Rattle.std.proofs.Common.{◌≡◌, ℕ, List, length, map, arith, refl, sym, ap, subst, ◌∙◌}
 use Rattle.host_io.specs.Outside.{ShelfState}
 use Rattle.any_core.specs.States.{any_state}
 use Rattle.any_core.specs.declared.AnyCore.{AnyCore}
 use Rattle.mb_sim.specs.declared.status.Status.{Status}
 use Rattle.mb_sim.specs.Board.{Says, no_memory, refused}
 use Rattle.mb_sim.specs.Top.{CountsLoads, CountsWrites}
-use Rattle.mb_sim.proofs.Boards.{puts_loads, puts_stores, puts_writes, says_played}
+use Rattle.exact_machine.proofs.Beginning.{fresh_count}
+use Rattle.exact_machine.specs.Machine.{ExactWorld}
+use Rattle.board_file.specs.declared.board.BoardFile.{BoardFile}
+use Rattle.ring_demo.proofs.Starting.{can_run}
+use Rattle.mb_sim.proofs.Boards.{loaded_count, puts_loads, puts_stores, puts_writes, says_played}
 use Rattle.mb_sim.proofs.run.run.Goals as goal
+
+pub play-requires : goal.play-requires
+play-requires g c =
+    let views = map (λ (core : AnyCore). (any_state core).view) c.in-Ok.job.cores.items in
+    record {
+      can = can_run c.in-Ok.job.board views (record { links = c.in-Ok.job.inputs.links; uarts = c.in-Ok.job.inputs.uarts }) c.args.words.now.entries c.args.words.now.cycles c.in-Some.ready.board
+          c.in-Some.ensures.start (omega (arith, c.requires.few));
+      count = ap (λ (x : ExactWorld). length x.cores) c.in-Some.ensures.start
+          ∙ fresh_count c.in-Ok.job.board.cores views (loaded_count (g.S.Shelf.state c.args.shelf.now).files c.in-Ok.job.board.network c.in-Ok.job.board.cores views c.in-Ok.ensures.ok.has_cores)
+          ∙ ap (λ (b : BoardFile). length b.cores) (sym c.in-Some.ensures.file);
+    }
 
 pub returns-in-Err-clause-says : goal.returns-in-Err-clause-says
 returns-in-Err-clause-says g c =
