@@ -51,6 +51,7 @@ int main(void)
 {
     bool is_there;
     uint32_t word;
+    enable_interrupts(); /* the start code takes that back after main: else this core, with its controller, wouldn't end */
     GET() GET(a) GET(c) GET(ca) GET(e) GET(ea) GET(ec) GET(eca)
     GET(t) GET(ta) GET(tc) GET(tca) GET(te) GET(tea) GET(tec) GET(teca)
     GET_AT_ONCE(n) GET_AT_ONCE(na) GET_AT_ONCE(nc) GET_AT_ONCE(nca)
