@@ -7,8 +7,7 @@ use Rattle.host_io.specs.declared.faults.StoreFault.{StoreFault}
 use Rattle.host_io.specs.Outside.{SinkState, Adds}
 use Rattle.run_journal.specs.declared.entry.Entry.{Entry}
 use Rattle.board_machine.proofs.Lists.{slice_get_in}
-use Rattle.run_output.proofs.Joined.{pieces_all, pieces_next}
-use Rattle.run_output.proofs.Printing.{adds_cut, adds_then}
+use Rattle.piece_output.proofs.Added.{adds_cut, adds_then, pieces_all, pieces_next}
 use Rattle.mb_sim.specs.Raw.{printed, printed_at, printed_of}
 
 nothing_known : (known : Option (List ℕ)) → known ≡ append_known known []

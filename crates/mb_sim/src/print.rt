@@ -20,7 +20,7 @@ pub fn print_items<O: Sink>(alloc: Global, out: &mut O, journal: &Journal) -> Re
 }
 
 /// Writes the line of the item of an entry, where the host got one.
-#[tactic(auto, using(run_output::proofs::Printing::adds_nothing))]
+#[tactic(auto, using(piece_output::proofs::Added::adds_nothing))]
 fn print_at<O: Sink>(
     alloc: Global,
     out: &mut O,
@@ -36,7 +36,7 @@ fn print_at<O: Sink>(
 }
 
 /// Writes the line of an entry's item, where the host got one.
-#[tactic(auto, using(run_output::proofs::Printing::adds_nothing))]
+#[tactic(auto, using(piece_output::proofs::Added::adds_nothing))]
 fn print_entry<O: Sink>(alloc: Global, out: &mut O, entry: &Entry) -> Result<(), StoreFault>
     ensures { Adds (O.state out.old) (O.state out.new) (printed_by entry.now.what) result }
 {
