@@ -1,6 +1,6 @@
 -- On a plain core no number of the past lies ahead, and nothing is early.
 use Rattle.std.proofs.Common.{ℕ, ◌≡◌, ◌<◌, ◌≤◌, ◌+◌, ◌-◌, ◌==◌, unwrap_or, IfSome, ◌⊎◌, inl, inr, nat_lt, Bool, true, false, List, Option, Some, None, refl, sym, subst, ap, ◌∙◌, arith, length, max, slice_index, slice_set, if◌then◌else◌}
-use Rattle.std.proofs.lemmas.List.{length-set, get_or-set_same, get_or-set_other, get_or_past, set-set, set_comm}
+use Rattle.std.proofs.lemmas.List.{length-set, set-set, set_comm}
 use Rattle.mb_decode.specs.declared.instruction.Instr.{Instr}
 use Rattle.mb_decode.specs.Registers.{reads_a, reads_b, reads_d}
 use Rattle.isa_step.specs.declared.acts.Act.{Act}
@@ -24,6 +24,7 @@ use Rattle.prepared_act.specs.Prepared.{late_register, number_of}
 use Rattle.prepared_act.specs.Retiring.{flow_by, flow_of}
 use Rattle.core_iface.specs.Pace.{Times, led, moved, noted, stayed, stopped, turned, went, went_by}
 use Rattle.core_iface.specs.PlainTimes.{IsPlain, times_of}
+use Rattle.timing_law.proofs.Near.{set_within}
 use Rattle.core_iface.proofs.Zeros.{zero_at}
 
 pub new_is_plain : IsPlain (record { acts = 0; ticks = 0; past = fresh Plain })
@@ -69,15 +70,6 @@ turns_plain t h = record {
   redirect = omega arith;
   ready = λ r. let le = h.ready r in omega (arith, le);
 }
-
--- a list with one item set has no greater item
-set_by : (ready : List ℕ) (r value high : ℕ) → value ≤ high → (t : Bool) → nat_lt r (length ready) ≡ t → slice_index (slice_set ready r value) r ≤ high
-set_by ready r value high le true is = rw (get_or-set_same ready r value 0 (grind (arith, is))) le
-set_by ready r value high le false is = let past : length (slice_set ready r value) ≤ r = rw (length-set ready r value) (grind (arith, is)) in grind (arith, get_or_past, past)
-
-set_within : (ready : List ℕ) (reg value r high : ℕ) → value ≤ high → ((k : ℕ) → slice_index ready k ≤ high) → (t : Bool) → (reg == r) ≡ t → slice_index (slice_set ready reg value) r ≤ high
-set_within ready reg value r high le all true is = let e : reg ≡ r = grind (arith, is) in rw e (set_by ready r value high le _ refl)
-set_within ready reg value r high le all false is = rw (get_or-set_other ready reg r value 0 (grind (arith, is))) (all r)
 
 noted_within : (late after : ℕ) (ready : List ℕ) → ((k : ℕ) → slice_index ready k ≤ after) → (t : Bool) → (late == 0) ≡ t → (r : ℕ) → slice_index (if t then ready else slice_set ready late after) r ≤ after
 noted_within late after ready all true is r = all r

@@ -1,5 +1,5 @@
 -- The time of a core with stages: its past, and how far its stages are.
-use Rattle.std.specs.Prelude.{ℕ, ◌≡◌, ◌+◌, ◌-◌, ◌≤◌, ◌<◌, ◌||◌, nat_lt, Bool, if◌then◌else◌, slice_index, length, Option}
+use Rattle.std.specs.Prelude.{ℕ, ◌≡◌, ◌+◌, ◌-◌, ◌≤◌, ◌<◌, ◌||◌, nat_lt, Bool, if◌then◌else◌, Option}
 use Rattle.mb_decode.specs.declared.instruction.Instr.{Instr}
 use Rattle.isa_step.specs.declared.acts.Done.{Done}
 use Rattle.isa_step.specs.declared.acts.Here.{Here}
@@ -8,6 +8,7 @@ use Rattle.prepared_act.specs.declared.flow.Flow.TheVariants as flow
 use Rattle.timing_law.specs.declared.past.Past.{Past}
 use Rattle.timing_law.specs.declared.pipe.Jump.{Jump}
 use Rattle.timing_law.specs.declared.pipe.Jump.TheVariants.{On, Taken, Struck}
+use Rattle.timing_law.specs.Near.{IsBefore}
 use Rattle.timing_law.specs.Past.{begins_at, retired}
 use Rattle.timing_law.specs.Passing.{is_ahead, past_after}
 use Rattle.timing_law.specs.Table.{extra_for}
@@ -22,19 +23,11 @@ pub record Clocked : Type 0 where
   pub left : ℕ
   pub past : Past
 
--- no number of the past lies far ahead
-pub record IsNear (x : Past) (high : ℕ) : Type 0 where
-  pub registers : length x.ready ≡ 32
-  pub first : x.first ≤ high
-  pub redirect : x.redirect ≤ high
-  pub next : x.next ≤ high
-  pub ready : (r : ℕ) → slice_index x.ready r ≤ high
-
--- and the slack covers all ticks before the next act
+-- no number of the past lies far ahead, and the slack covers all ticks before the next act
 pub record IsTimed (t : Clocked) : Type 0 where
   pub slack : t.slack < 64
   pub fewer : t.acts ≤ t.ticks
-  pub near : IsNear t.past (t.ticks + 30)
+  pub near : IsBefore t.past (t.ticks + 30)
   pub covered : t.wait + t.left ≤ t.slack
 
 -- a stage holds the instruction at pc back, or the divider has steps to do
