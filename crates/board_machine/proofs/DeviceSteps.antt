@@ -27,7 +27,7 @@ one_each move each (suc n) f =
 
 -- the devices alone change
 devices_enter : (f : Fabric) (d : Devices) → Enters f (record f { devices = d }) 0
-devices_enter f d = record { rows = refl; bus = refl; cycle = refl; left = refl; spare = omega arith }
+devices_enter f d = record { rows = refl; bus = refl; cycle = refl; left = refl; spare = omega arith; less = omega arith; places = λ l. refl }
 
 uart_by : (k : ℕ) (f : Fabric) (turn : Bool) (o : Option What) → Enters f (cond turn (entered_some no_core 0 o (with_devices (uart_cycled k f.devices) f)) f) 1
 uart_by k f false o = same_enters f f 1 refl
@@ -37,7 +37,9 @@ pub uart_enters : (k : ℕ) (f : Fabric) → Enters f (uart_moved k f) 1
 uart_enters k f = uart_by k f (is_turn f.cycle (slice_get f.bus.uarts k)) (left_at k (slice_get f.devices.uarts k))
 
 both_less : (f g h : Fabric) (m n k : ℕ) → m + n ≤ k → Enters f g m → Enters g h n → Enters f h k
-both_less f g h m n k l a b = let e = both_enter f g h m n a b in record { rows = e.rows; bus = e.bus; cycle = e.cycle; left = e.left; spare = omega (arith, l, e.spare) }
+both_less f g h m n k l a b =
+    let e = both_enter f g h m n a b in
+    record { rows = e.rows; bus = e.bus; cycle = e.cycle; left = e.left; spare = omega (arith, l, e.spare); less = e.less; places = λ j. e.places (omega (arith, l, j)) }
 
 pub moved_enter : (f : Fabric) → Enters f (devices_moved f) (length f.bus.uarts)
 moved_enter f =

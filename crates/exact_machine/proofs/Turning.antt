@@ -19,7 +19,7 @@ use Rattle.board_machine.specs.declared.events.RunEnd.{RunEnd}
 use Rattle.std.specs.List.{AllByRecursion}
 use Rattle.board_machine.proofs.DeviceSteps.{done_enters}
 use Rattle.board_machine.proofs.Lists.{last_or_before, slice_get_in, slice_get_set_other, slice_get_set_same}
-use Rattle.board_machine.proofs.Steps.{Ticked, moves_enter, ticked as ticked_free}
+use Rattle.board_machine.proofs.Steps.{Enters, Ticked, moves_enter, ticked as ticked_free}
 use Rattle.board_machine.proofs.Turns.{turns_apart}
 use Rattle.exact_machine.specs.Machine.{ExactCore, ExactWorld, core_after, exact_step, exact_steps, fabric_after, is_held_at, opened, ticked, with_slack}
 use Rattle.exact_machine.specs.Runs.{ExactRun, exact_cycle, exact_cycles, exact_end}
@@ -61,6 +61,14 @@ tick_leaves core d held x f =
     let k = ticked_free core d (with_slack 1 x) f (with_slack t.slack (core_after d held x)) (fabric_after core x.acts d held f) t.may in
     record { ticks = k.ticks; enters = k.enters }
 
+-- each entry that was added took a place of the room
+pub record Fills (f g : Fabric) : Type 0 where
+  pub less : g.spare ≤ f.spare
+  pub places : length g.journal + g.spare ≡ length f.journal + f.spare
+
+fills : (f g h : Fabric) (n : ℕ) → n ≤ g.spare → Fills f g → Enters g h n → Fills f h
+fills f g h n l a b = record { less = omega (arith, a.less, b.less); places = b.places l ∙ a.places }
+
 -- amid a cycle, after its first k turns
 pub record Amid (old w : ExactWorld) (k : ℕ) : Type 0 where
   pub rows : w.fabric.rows ≡ old.fabric.rows
@@ -69,6 +77,7 @@ pub record Amid (old w : ExactWorld) (k : ℕ) : Type 0 where
   pub cycle : w.fabric.cycle ≡ old.fabric.cycle
   pub bus : w.fabric.bus ≡ old.fabric.bus
   pub spare : old.fabric.spare ≤ w.fabric.spare + length old.fabric.bus.uarts + length old.cores + length old.fabric.rows + 2 * k
+  pub fills : length old.fabric.bus.uarts + length old.cores + length old.fabric.rows + 2 * k ≤ old.fabric.spare → Fills old.fabric w.fabric
   pub coming : (j : ℕ) → k ≤ j → j < length old.schedule.clocks → slice_get w.cores (core_of_turn old.schedule old.fabric.cycle j) ≡ slice_get old.cores (core_of_turn old.schedule old.fabric.cycle j)
   pub ticks : (i : ℕ) (s : ExactCore) → slice_get w.cores i ≡ Some s → (r : ExactCore) × (slice_get old.cores i ≡ Some r) × (s.ticks ≤ r.ticks + 1)
 
@@ -85,6 +94,12 @@ host_amid old =
       cycle = m.cycle ∙ d.cycle;
       bus = m.bus ∙ d.bus;
       spare = omega (arith, m.spare, d.spare, n, ap (λ (rows : List LinkRow). length rows) d.rows);
+      fills = λ l.
+          let rows : length f.rows ≡ length old.fabric.rows = ap (λ (rows : List LinkRow). length rows) d.rows in
+          record {
+            less = omega (arith, m.less, d.less);
+            places = m.places (omega (arith, l, d.spare, n, rows)) ∙ d.places (omega (arith, l, n));
+          };
       coming = λ j le lt. refl;
       ticks = λ i s q. (s, q, omega arith);
     }
@@ -113,6 +128,7 @@ tick_there old w k s l a q =
       cycle = t.enters.cycle ∙ a.cycle;
       bus = t.enters.bus ∙ a.bus;
       spare = omega (arith, t.enters.spare, a.spare);
+      fills = λ l. fills old.fabric w.fabric (fabric_after core s.acts d held w.fabric) 2 (omega (arith, l, a.spare)) (a.fills (omega (arith, l))) t.enters;
       coming = λ j le lt.
           let other = core_of_turn old.schedule old.fabric.cycle j in
           let ne : other ≡ core → ⊥ = λ e. omega (arith, le, turns_apart old.schedule.turn (length old.schedule.clocks) old.fabric.cycle j k lt l e) in
@@ -128,6 +144,7 @@ amid_more old w k a = record {
   cycle = a.cycle;
   bus = a.bus;
   spare = omega (arith, a.spare);
+  fills = λ l. a.fills (omega (arith, l));
   coming = λ j le lt. a.coming j (omega (arith, le)) lt;
   ticks = a.ticks;
 }
@@ -160,13 +177,14 @@ pub record Cycled (old new : ExactWorld) : Type 0 where
   pub schedule : new.schedule ≡ old.schedule
   pub cycle : new.fabric.cycle ≡ old.fabric.cycle + 1
   pub ticks : (i : ℕ) (s : ExactCore) → slice_get new.cores i ≡ Some s → (r : ExactCore) × (slice_get old.cores i ≡ Some r) × (s.ticks ≤ r.ticks + 1)
+  pub fills : length old.schedule.clocks ≡ length old.cores → need_of old ≤ old.fabric.spare → Fills old.fabric new.fabric
 
 pub cycled : (old new : ExactWorld) → Steps old (events_of old.schedule old.fabric.cycle) new → Cycled old new
 cycled old new h =
     let n = length old.schedule.clocks in
     let p = steps_split old new (Devices ∷ Host ∷ turns old.schedule old.fabric.cycle n) (Next ∷ []) h in
     let a = turns_amid old p.0 n (omega arith) p.1 in
-    subst (Cycled old) (sym p.2) (record { rows = a.rows; cores = a.cores; schedule = a.schedule; cycle = ap (λ n. n + 1) a.cycle; ticks = a.ticks })
+    subst (Cycled old) (sym p.2) (record { rows = a.rows; cores = a.cores; schedule = a.schedule; cycle = ap (λ n. n + 1) a.cycle; ticks = a.ticks; fills = λ c l. let g = a.fills (omega (arith, c, l)) in record { less = g.less; places = g.places } })
 
 pub can_go_on : (limit : ℕ) (w v : ExactWorld) → CanRun limit w → w.fabric.cycle < limit → Cycled w v → CanRun limit v
 can_go_on limit w v c l d = record {
