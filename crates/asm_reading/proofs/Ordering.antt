@@ -45,7 +45,7 @@ lines_have_a_least source = first_of_lines (labels_of source) 1 (lines_of source
 -- ---- the order of items
 
 each_at : (P : Written → Type 0) (head : Head) → ((i : Item) → P (at_head head i)) → (items : List Item) → All P (map (at_head head) items)
-each_at P head holds [] k d lt = absurd (omega (arith, lt))
+each_at P head holds [] = λ k d lt. absurd (omega (arith, lt))
 each_at P head holds (i ∷ items) = All-cons P (at_head head i) (map (at_head head) items) (holds i) (each_at P head holds items)
 
 pairs_before : {X : Type 0} (R : X → X → Type 0) (xs ys : List X) → AllPairs R xs → AllPairs R ys → All (λ x. All (R x) ys) xs → AllPairs R (xs ++ ys)
@@ -64,7 +64,7 @@ same_place : (line column : ℕ) (i j : Item) → stands_before (record { item =
 same_place line column i j = grind (arith, nat_tests)
 
 at_one_place : (head : Head) (items : List Item) → AreInOrder (map (at_head head) items)
-at_one_place head [] i j d lt within = absurd (omega (arith, within))
+at_one_place head [] = λ i j d lt within. absurd (omega (arith, within))
 at_one_place head (i ∷ items) =
     AllPairs-cons (λ w v. stands_before v w ≡ false) (at_head head i) (map (at_head head) items)
     (each_at (λ v. stands_before v (at_head head i) ≡ false) head (λ j. same_place head.line head.column i j) items) (at_one_place head items)
