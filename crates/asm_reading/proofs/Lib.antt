@@ -5,3 +5,4 @@ pub mod LineByLine
 pub mod Names
 pub mod OneLine
 pub mod Speaking
+pub mod Ordering

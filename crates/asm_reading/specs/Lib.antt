@@ -2,3 +2,5 @@ pub mod Lines
 pub mod Marks
 pub mod Reading
 pub mod Tables
+pub mod FirstRound
+pub mod Laws

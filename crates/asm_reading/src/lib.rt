@@ -3,6 +3,7 @@
 
 mod label_table;
 mod labels;
+mod law;
 mod lines;
 mod reading;
 mod source;
@@ -11,5 +12,6 @@ mod tests;
 
 pub use label_table::LabelTable;
 pub use labels::Marked;
+pub use law::{items_are_in_order, lines_have_a_least};
 pub use reading::Reading;
 pub use source::read_source;

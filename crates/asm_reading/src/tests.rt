@@ -1,6 +1,6 @@
 use crate::read_source;
 use asm_statement::Labels;
-use std::alloc::Global;
+use std::alloc::{AllocError, Global};
 
 /// The code, the line and the column of the first fault of a source's lines; no numbers where there is none.
 fn first_fault(alloc: Global, source: &[u8]) -> Option<(u16, u32, u32)> {
@@ -43,6 +43,24 @@ fn first_faults(rt: HostRuntime) {
         let found = first_fault(rt.alloc(), source.as_bytes());
         assert!(rt; found.is_none(), "{source}: {found:?}");
     }
+}
+
+/// Expected: columns count bytes, however many a line has, and a comment holds any byte.
+#[test]
+fn long_lines_have_their_columns(rt: HostRuntime) -> Result<(), AllocError> {
+    let rows: [(u8, &[u8], (u16, u32, u32)); 4] = [
+        (b' ', b"foo", (1101, 1, 70_001)),
+        (b'\t', b"x: x: nop", (1105, 1, 70_004)),
+        (b'#', b"\xFF\x00\r\nfoo", (1101, 2, 1)),
+        (b'\n', b" nop \xFF", (1110, 70_001, 6)),
+    ];
+    for (byte, end, fault) in rows {
+        let mut source = vec![in rt.alloc(); byte; 70_000]?;
+        source.extend_from_slice(end)?;
+        let found = first_fault(rt.alloc(), source.as_slice());
+        assert!(rt; found == Some(fault), "{byte}: {found:?}");
+    }
+    Ok(())
 }
 
 /// Expected: each label stands before the item that comes next, and the last `.entry` counts.

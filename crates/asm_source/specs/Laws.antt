@@ -1,11 +1,12 @@
 -- What the definitions are.
-use Rattle.std.specs.Prelude.{◌≡◌, ◌≤◌, ℕ, List, None, flat_map, length}
+use Rattle.std.specs.Prelude.{◌≡◌, ◌≤◌, ◌==◌, ◌&&◌, ◌||◌, ℕ, nat_lt, Bool, false, List, None, flat_map, length}
+use Rattle.std.specs.List.{AllPairs}
 use Rattle.core_regs.specs.declared.causes.Order.{Order}
 use Rattle.asm_source.specs.declared.fault.Fault.{Fault}
 use Rattle.asm_source.specs.Faults.{IsFirst, least}
 use Rattle.asm_source.specs.declared.item.Item.{Item}
 use Rattle.asm_source.specs.declared.item.Written.{Written}
-use Rattle.asm_source.specs.Second.{items_of, place_of, second_faults}
+use Rattle.asm_source.specs.Second.{all_second_faults, items_of, place_of, second_faults}
 use Rattle.asm_source.specs.Source.{AreParts, IsImageOf, parts_of}
 use Rattle.asm_layout.specs.Layout.{Numbers}
 
@@ -16,6 +17,18 @@ LeastIsFirst = (all : List Fault) → IsFirst all (least all)
 -- a source has at most one image
 abbrev pub ImageIsOne : Type 0
 ImageIsOne = (order : Order) (items : List Item) (one other : List (ℕ × List ℕ)) → IsImageOf order items one → IsImageOf order items other → one ≡ other
+
+-- an item stands in an earlier line than another, or in the same one further to the left
+abbrev pub stands_before : Written → Written → Bool
+stands_before w v = nat_lt w.line v.line || w.line == v.line && nat_lt w.column v.column
+
+-- none stands before one that comes earlier in the list
+abbrev pub AreInOrder : List Written → Type 0
+AreInOrder all = AllPairs (λ w v. stands_before v w ≡ false) all
+
+-- behind the first part that shares a byte no fault of a part can be the first
+abbrev pub PartsMayStop : Type 0
+PartsMayStop = (all : List Written) (F : Numbers) → AreInOrder all → least (second_faults all F) ≡ least (all_second_faults all F)
 
 -- in a layout without a fault no place is past the limit
 abbrev pub FaultlessIsNear : Type 0

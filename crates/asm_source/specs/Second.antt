@@ -88,13 +88,26 @@ spans_from all F k from org (w ∷ ws) =
 abbrev pub kept_with : Range → ℕ → ℕ
 kept_with r kept = if has_bytes r then kept + 1 else kept
 
--- each part against all before it, and how many of those are kept, up to the first that shares a byte: the faults of parts
--- come in the order of their lines
+-- each part against all before it, and how many of those are kept
+unfoldable pub all_part_faults : ℕ → List Range → List Span → List Fault
+all_part_faults kept earlier [] = []
+all_part_faults kept earlier (p ∷ ps) =
+    fault_if (list_any (shares_byte p.range) earlier) SharedByte p.org
+    ++ fault_if (has_bytes p.range && nat_lt 65_534 (kept + 1)) TooMuch p.org
+    ++ all_part_faults (kept_with p.range kept) (earlier ++ p.range ∷ []) ps
+
+-- the same up to the first that shares a byte, which is enough: the faults of parts come in the order of their lines
 unfoldable pub part_faults : ℕ → List Range → List Span → List Fault
 part_faults kept earlier [] = []
 part_faults kept earlier (p ∷ ps) =
     if list_any (shares_byte p.range) earlier then fault_if true SharedByte p.org
     else fault_if (has_bytes p.range && nat_lt 65_534 (kept + 1)) TooMuch p.org ++ part_faults (kept_with p.range kept) (earlier ++ p.range ∷ []) ps
+
+-- all faults of the second round, and those up to the first part that shares a byte
+unfoldable pub all_second_faults : List Written → Numbers → List Fault
+all_second_faults all F =
+    flat_map (item_faults all F) (range_with_len 0 (length all))
+    ++ all_part_faults 0 [] (spans_from all F 0 0 (written all 0) all)
 
 unfoldable pub second_faults : List Written → Numbers → List Fault
 second_faults all F =

@@ -59,10 +59,14 @@ fn operands_go_to_their_fields(rt: HostRuntime) {
         ("addik r3, r0, -5", false, instr(Op::Addik, 3, 0, 0, 0, 0), Some(Operand::Number(-5))),
         ("la r3,r4,0x12345", false, instr(Op::Addik, 3, 4, 0, 0, 0), Some(Operand::Number(0x12345))),
         ("addik r3, r0, 65535", true, instr(Op::Addik, 3, 0, 0, 0, 0), Some(Operand::Number(65535))),
+        ("addik r31, r0, -32768", true, instr(Op::Addik, 31, 0, 0, 0, 0), Some(Operand::Number(-32768))),
         ("bri rfsl16", false, instr(Op::Bri, 0, 0, 0, 0, 0), Some(Operand::Label(0))),
         ("bslli r3, r4, 31", false, instr(Op::Bslli, 3, 4, 0, 31, 0), None),
         ("imm 0xBEEF", false, instr(Op::Imm, 0, 0, 0, 0xBEEF, 0), None),
+        ("imm 65535", false, instr(Op::Imm, 0, 0, 0, 65535, 0), None),
+        ("imm 0", false, instr(Op::Imm, 0, 0, 0, 0, 0), None),
         ("mbar 2", false, instr(Op::Mbar, 0, 0, 0, 2, 0), None),
+        ("mbar 31", false, instr(Op::Mbar, 0, 0, 0, 31, 0), None),
         ("mfs r6, redr", false, instr(Op::MfsRedr, 6, 0, 0, 0, 0), None),
         ("mts rmsr, r6", false, instr(Op::Mts, 0, 6, 0, 0, 0), None),
         ("msrset r3, 32767", false, instr(Op::Msrset, 3, 0, 0, 32767, 0), None),
@@ -79,7 +83,7 @@ fn operands_go_to_their_fields(rt: HostRuntime) {
     for (line, after_imm) in [
         ("addik r3, r0", false), ("addik r3, r0,", false), ("addik r3 r0, 5", false), ("addik r3, r0, 5, 6", false), ("addik , r0, 5", false),
         ("add r3, r4, 5", false), ("bri r5", false), ("bri rmsr", false), ("bri rfsl0", false), ("addik r3, r0, x", true), ("imm x", false),
-        ("put rfsl3", false), ("tput", false), ("mts rpc, r6", false), ("nop r0", false), ("bslli r3, r4, x", false), ("lwi r3, r03, 0", false),
+        ("put rfsl3", false), ("tput", false), ("mts rpc, r6", false), ("nop r0", false), ("bslli r3, r4, x", false), ("lwi r3, r03, 0", false), ("lwi r3, r32, 0", false),
     ] {
         assert!(rt; read(line.as_bytes(), after_imm).is_none(), "{line}");
     }
@@ -101,7 +105,7 @@ fn directives_take_their_operands(rt: HostRuntime) {
         (".word -2147483648", true, true), (".word x", true, true), (".word r3", false, false), (".word \"a\"", false, false),
         (".half 65535", true, true), (".half -32768", true, true), (".half 65536", true, false), (".half -32769", true, false), (".half x", false, false),
         (".byte 255", true, true), (".byte -128", true, true), (".byte 256", true, false), (".byte -129", true, false),
-        (".space 0", true, true), (".space -1", true, false), (".align 16", true, true), (".align 3", true, false), (".align 0", true, false), (".align 32", true, false),
+        (".space 0", true, true), (".space 4294967295", true, true), (".space -1", true, false), (".org 0", true, true), (".word 4294967295", true, true), (".align 16", true, true), (".align 8", true, true), (".align 4", true, true), (".align 2", true, true), (".align 1", true, true), (".align 3", true, false), (".align 0", true, false), (".align 32", true, false),
         (".ascii \"a\"", true, true), (".ascii a", false, false), (".entry x", true, true), (".entry r3", false, false), (".global r3", true, true),
     ] {
         let bytes = line.as_bytes();

@@ -10,6 +10,7 @@
 
 mod answer;
 mod assembling;
+mod law;
 mod laying;
 #[cfg(test)]
 mod tests;
@@ -17,4 +18,5 @@ mod word_lines;
 
 pub use answer::{AsmFault, Assembled};
 pub use assembling::assemble;
+pub use law::faults_are_in_order;
 pub use word_lines::{Line, Lines};
