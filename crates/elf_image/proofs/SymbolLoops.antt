@@ -1,5 +1,5 @@
 -- Section headers and symbols, one after the other.
-use Rattle.std.proofs.Common.{◌≡◌, ℕ, ◌+◌, ◌-◌, ◌*◌, ◌<◌, ◌≤◌, Bool, true, false, cond, List, [], ◌∷◌, ◌++◌, map, Option, Some, None, option_map, refl, sym, ap, ◌∙◌, arith, append_assoc, append-nil, suc}
+use Rattle.std.proofs.Common.{◌≡◌, ℕ, ◌+◌, ◌-◌, ◌*◌, ◌<◌, ◌≤◌, true, false, cond, List, [], ◌∷◌, ◌++◌, map, Option, Some, None, option_map, refl, sym, ap, ◌∙◌, arith, append_assoc, append-nil, suc}
 use Rattle.std.specs.List.{find, range_with_len}
 use Rattle.core_regs.specs.declared.causes.Order.{Order}
 use Rattle.elf_image.specs.Symbols.{all_of, is_symbol_table, section_header, sections_from, symbol_at, symbols_from}

@@ -1,8 +1,6 @@
 //! The symbols of a file, read from its symbol table.
-ghost use Rattle.std.specs.Prelude.{◌≡◌, ◌≤◌, ◌<◌, ◌*◌, ◌+◌, ◌++◌, ◌∷◌, [], Some, None, IfOk, IfSome, IsSome, ◌↔◌, length, slice_get, drop, ◌/◌};
-ghost use Rattle.elf_image.specs.Symbols.{before_zero, or_none, symbol_at, symbols_by, symbols_in, symbols_of, symbols_there, all_of, symbols_from};
-ghost use Rattle.elf_image.specs.Tests.{passes};
-ghost use Rattle.elf_image.specs.Fields.{number_at};
+ghost use Rattle.std.specs.Prelude.{◌≡◌, ◌≤◌, ◌+◌, ◌==◌, ◌/◌, IfOk, drop, length, position};
+ghost use Rattle.elf_image.specs.Symbols.{all_of, before_zero, symbol_at, symbols_from, symbols_of, symbols_there};
 
 use crate::field::{order, word_at};
 use crate::parts::rest_of;
@@ -15,12 +13,19 @@ use std::alloc::Global;
 /// The size of an Elf32_Sym in bytes.
 const SYMBOL_SIZE: usize = 16;
 
+/// The place of the first byte that is 0.
+fn first_zero(bytes: &[u8]) -> Option<usize>
+    ensures { result ≡ position (λ b. b == 0) bytes.now }
+{
+    bytes.iter().position(|byte| *byte == 0)
+}
+
 /// The bytes of `strings` before the first from `at` on that is 0.
 fn name_at(alloc: Global, strings: &[u8], at: usize) -> Result<Option<Blob>, NoMemory>
     ensures { IfOk result (λ name. name ≡ before_zero (drop at strings.now)) }
 {
     let rest = rest_of(strings, at);
-    match rest.iter().position(|byte| *byte == 0) {
+    match first_zero(rest) {
         Some(count) => Ok(Some(Blob::from_vec(Vec::from_slice(alloc, first_of(rest, count))?))),
         None => Ok(None),
     }

@@ -1,4 +1,4 @@
-use Rattle.std.proofs.Common.{◌≡◌, ◌∙◌, refl, sym, ap}
+use Rattle.std.proofs.Common.{◌∙◌, sym}
 use Rattle.elf_image.proofs.SymbolLoops.{no_table, table_here, table_past}
 use Rattle.elf_image.proofs.section.first_symbol_table.Goals as goal
 
