@@ -4,6 +4,7 @@ pub mod Loadable
 pub mod Loaded
 pub mod ReadsBack
 pub mod Shared
+pub mod SymbolLoops
 pub mod WrittenFields
 pub mod WrittenLoads
 pub mod WrittenLoops

@@ -27,7 +27,8 @@ fn half_at(order: Order, file: &[u8], at: usize) -> u16
     }
 }
 
-fn word_at(order: Order, file: &[u8], at: usize) -> u32
+/// The four bytes at `at` as a number in this byte order.
+pub fn word_at(order: Order, file: &[u8], at: usize) -> u32
     requires { at + 4 ≤ length file.now }
     ensures { result ≡ number_at order 4 at file.now }
 {

@@ -20,7 +20,8 @@ const EM_MICROBLAZE: u16 = 189;
 
 const EM_MICROBLAZE_OLD: u16 = 0xBAAB;
 
-fn begins_as_elf(file: &[u8]) -> bool
+/// Whether the first four bytes are those of an ELF file.
+pub fn begins_as_elf(file: &[u8]) -> bool
     ensures { result ≡ has_magic file.now }
 {
     file.starts_with(b"\x7FELF")

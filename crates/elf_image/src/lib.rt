@@ -22,16 +22,23 @@ mod law;
 mod overlap;
 mod parts;
 mod reader;
+mod section;
 mod segment;
+mod symbol;
+mod symbol_table;
 mod writing;
 
 pub use fault::ElfFault;
 pub use image::{Image, Part, Parts};
 pub use law::sharing_means_an_address;
 pub use reader::read_elf;
+pub use symbol::{Symbol, Symbols};
+pub use symbol_table::symbols;
 pub use writing::{files_are_as_long_as_their_parts, write_elf, written_files_read_back};
 
 #[cfg(test)]
 mod tests;
+#[cfg(test)]
+mod tests_of_symbols;
 #[cfg(test)]
 mod tests_of_writing;

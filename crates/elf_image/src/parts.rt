@@ -10,7 +10,7 @@ use std::alloc::Global;
 const PF_X: u32 = 1;
 
 /// The bytes from a place on, none where the place is past the end.
-fn rest_of(bytes: &[u8], at: usize) -> &[u8]
+pub fn rest_of(bytes: &[u8], at: usize) -> &[u8]
     ensures { result.now ≡ drop at bytes.now }
 {
     if bytes.len() <= at { &[] } else { &bytes[at..] }
