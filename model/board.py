@@ -5,6 +5,7 @@ timers, UARTs and controllers move, then lines are latched), a move of the host 
 core that is due.
 
     python3 model/board.py run BOARD [--cycles N] [--journal N] [--write-journal FILE]
+    python3 model/board.py profile BOARD [--cycles N] [--journal N]
 
 does what the program does, only slower.
 """
@@ -20,6 +21,7 @@ import devices
 import elf
 
 CYCLES, ENTRIES = 10_000_000, 1_048_576
+COUNTS = ("acted", "start", "hold", "operand", "redirect", "divide", "waiting", "sleeping", "done")
 LIMITS = {"board": 1_048_576, "image": 134_217_728, "input": 4_194_304}
 
 
@@ -108,6 +110,7 @@ class Board:
         self.events = list(events)  # (core's ports, cycle, kind)
         self.cycle, self.journal = 0, []
         self.acts, self.waits = [0] * len(cores), [False] * len(cores)
+        self.profiles = [dict.fromkeys(COUNTS, 0) for _ in cores]
         self.need = 5 * len(cores) + len(links) + len(uarts)
         self.tell_what_comes()
 
@@ -168,6 +171,7 @@ class Board:
     def tick(self, number):
         name, _, one, ports = self.cores[number]
         acted, told = one.tick(ports)
+        self.profiles[number][one.spent] += 1
         for what in told if acted or not self.waits[number] else ():
             self.enter(name, self.acts[number], what)
         self.waits[number] = not acted and (self.waits[number] or bool(told))
@@ -209,6 +213,13 @@ class Board:
         lines += [f"link {link.name} sent {link.sent} taken {link.taken}" for link in self.links]
         lines += [f"uart {uart.name} left {len(uart.left)}" for uart in self.uarts]
         return "".join(line + "\n" for line in lines)
+
+    def profile(self):
+        """What the ticks of each core were spent on; each tick was counted once."""
+        for (_, _, one, _), counts in zip(self.cores, self.profiles):
+            assert sum(counts.values()) == one.ticks
+        return "".join(f"profile {name} " + " ".join(f"{what} {counts[what]}" for what in COUNTS) + "\n"
+                       for (name, _, _, _), counts in zip(self.cores, self.profiles))
 
 
 # files
@@ -303,8 +314,8 @@ def build(file, folder):
     return Board(cores, links, events, file.get("order", "ascending"), *build_devices(file, folder, by_name))
 
 
-def run(folder, name, cycles=CYCLES, entries=ENTRIES, journal=None):
-    """What `mbsim run` of a board file comes to; nothing is written."""
+def run(folder, name, cycles=CYCLES, entries=ENTRIES, journal=None, profiled=False):
+    """What `mbsim run` of a board file comes to, or `mbsim profile`, which has no files; nothing is written."""
     try:
         fault, file = board_rules.least_fault(load(folder, name, LIMITS["board"]))
         if fault:
@@ -315,6 +326,8 @@ def run(folder, name, cycles=CYCLES, entries=ENTRIES, journal=None):
     except Refused as refused:
         return Outcome(refused.status, err=f"mbsim: {refused.line}\n")
     status = board.run(cycles, entries)
+    if profiled:
+        return Outcome(status, board.report(status) + board.profile())
     files = {link.to_file: bytes_of(link.left) for link in board.links if link.to_file is not None}
     files |= {row["output"]: bytes(uart.left) for (_, row), uart in zip(rows(file, "uart"), board.uarts)}
     if journal:
@@ -335,6 +348,7 @@ def raw(image, limit=CYCLES, entries=ENTRIES):
 # the command line
 
 FILE_NAME = re.compile(r"[A-Za-z0-9_./][A-Za-z0-9_./-]{0,63}")
+OPTIONS = {"run": ("cycles", "journal", "write-journal"), "profile": ("cycles", "journal")}
 MOST = {"cycles": 1_000_000_000_000, "journal": 33_554_432}
 
 
@@ -351,16 +365,17 @@ def value_of(name, value):
 
 
 def read_words(words):
-    """The options and the board of `run`."""
+    """The options and the board of `run` and `profile`."""
     found, plain, rest = {}, [], list(words[1:])
-    while words[:1] == ["run"] and rest:
+    options = OPTIONS.get(words[0], ()) if words else ()
+    while options and rest:
         word = rest.pop(0)
         if word == "--" or not word.startswith("-"):
             plain += rest if word == "--" else [word]
             rest = [] if word == "--" else rest
             continue
         name, equals, value = word[2:].partition("=")
-        if not word.startswith("--") or name not in ("cycles", "journal", "write-journal") or name in found or not (equals or rest):
+        if not word.startswith("--") or name not in options or name in found or not (equals or rest):
             raise Refused(4, "usage")
         found[name] = value_of(name, value if equals else rest.pop(0))
     if len(plain) != 1:
@@ -374,7 +389,7 @@ def call(folder, words):
         name, found = read_words(words)
     except Refused as refused:
         return Outcome(refused.status, err=f"mbsim: {refused.line}\n")
-    return run(folder, name, found.get("cycles", CYCLES), found.get("journal", ENTRIES), found.get("write-journal"))
+    return run(folder, name, found.get("cycles", CYCLES), found.get("journal", ENTRIES), found.get("write-journal"), words[0] == "profile")
 
 
 def main():

@@ -49,12 +49,13 @@ class Core:
         self.told = []  # what the act in hand enters in the journal
         self.ticks, self.past = 0, []  # the ticks that it had; its last acts as time sees them, the oldest first
         self.done = timing.Act(0)  # the act in hand
+        self.spent = None  # what the last tick was spent on
 
     # one chance to act
 
     def tick(self, ports):
         """Does the one act that is due. Answers whether there was one, and what it, or a wait, enters in the journal."""
-        self.told, self.done = [], timing.Act(self.ticks)
+        self.told, self.done, self.spent = [], timing.Act(self.ticks), "acted"
         acted = self.act(ports)
         if acted and not self.stopped:
             # older acts can't hold the next one back
@@ -64,17 +65,19 @@ class Core:
 
     def act(self, ports):
         if self.stopped:
-            return False
+            return self.passes("done")
         take = self.take_due(ports)
         if take:
             self.enter(take)
             ports.took(take)
             return True
         if self.asleep:
-            return False
+            return self.passes("done" if self.idle(ports) else "sleeping")
         word = self.word_here()
-        if self.has_ended(word, ports) or self.ticks < self.due_tick():
-            return False
+        if self.has_ended(word, ports):
+            return self.passes("done")
+        if self.ticks < self.due_tick():
+            return self.passes(self.reason())
         if word is None:
             self.fault(3, f"ibus {self.pc:08X}")
             return True
@@ -85,7 +88,7 @@ class Core:
             self.stop(f"slot {word:08X}")
         elif self.wait(word, name, ports):
             self.told.append("wait " + self.wait(word, name, ports))
-            return False
+            return self.passes("waiting")
         else:
             self.execute(word, name, form, ports)
         return True
@@ -94,6 +97,16 @@ class Core:
         """The tick from which on the instruction at pc may act."""
         name, read = self.operands_here()
         return timing.due_tick(self.pipeline, self.past, name, read, self.slot is not None)
+
+    def reason(self):
+        """What an act that is due later waits for."""
+        _, read = self.operands_here()
+        return timing.reason(self.pipeline, self.past, self.ticks, read, self.slot is not None)
+
+    def passes(self, spent):
+        """A tick without an act, and what it is spent on."""
+        self.spent = spent
+        return False
 
     def operands_here(self):
         """The name of the instruction at pc and the registers that it reads; None and none if there is no instruction."""

@@ -58,6 +58,20 @@ def relay():
               (0, report, {"out": bytes([0, 0, 0, 0, 7]), "journal": journal.encode()}))
 
 
+def profiles():
+    """What the ticks of the first of these boards were spent on. `a` acts twice and has ended; `b` waits in the first cycle."""
+    with tempfile.TemporaryDirectory() as folder:
+        for name, listed in RELAY.items():
+            pathlib.Path(folder, name).write_bytes(image_of(listed))
+        pathlib.Path(folder, "board.toml").write_text(relay_text())
+        done = board.call(folder, ["profile", "board.toml"])
+    lines = done.out.splitlines()
+    check("profile of relay", (done.status, lines[-2:], done.files), (0, [
+        "profile a acted 2 start 0 hold 0 operand 0 redirect 0 divide 0 waiting 0 sleeping 0 done 2",
+        "profile b acted 2 start 0 hold 0 operand 0 redirect 0 divide 0 waiting 1 sleeping 0 done 1"], {}))
+    check("a profile has no journal file", board.call(".", ["profile", "board.toml", "--write-journal", "out"]).status, 4)
+
+
 def deferred_breaks(more=""):
     """With more tables that change nothing."""
     words = {0: [0xB8080040], 0x18: [0xB6500000, 0x80000000],
@@ -154,7 +168,7 @@ def images():
 def main(words):
     """The first word, if any, is the size of the journal of the endless put."""
     entries = int(words[0]) if words else 4_096
-    for test in (relay, deferred_breaks, cross_wait, control_bits, journal_full, load_chain, refusals, images):
+    for test in (relay, profiles, deferred_breaks, cross_wait, control_bits, journal_full, load_chain, refusals, images):
         test()
     endless_put(entries)
     print("board model: all worked runs agree")

@@ -60,6 +60,14 @@ class Alone:
     def idle(self, ports):
         return self.core.idle(ports)
 
+    @property
+    def spent(self):
+        return self.core.spent
+
+    @property
+    def ticks(self):
+        return self.core.ticks
+
     def came_to(self):
         return self.status, self.board.cycle, len(self.acted_in)
 
@@ -82,14 +90,18 @@ def results():
         check(f"last value on {pipeline}", Alone(pipeline, LAST_VALUE).items, [2])
 
 
-def reasons():
-    """What the ticks without an act waited for."""
-    rows = [("loads", LOADS, {THREE: {"start": 2, "hold": 9}, FIVE: {"start": 3, "operand": 9}, EIGHT: {"start": 3, "operand": 36}}),
-            ("division", DIVIDE, {FIVE: {"start": 3, "divide": 33}}), ("loop", LOOP, {FIVE: {"start": 3, "redirect": 4}})]
-    for what, words, on_some in rows:
+def profiles():
+    """What the ticks of each program were spent on."""
+    rows = [("loads", LOADS, 11, {THREE: {"start": 2, "hold": 9}, FIVE: {"start": 3, "operand": 9}, EIGHT: {"start": 3, "operand": 36}}),
+            ("division", DIVIDE, 4, {FIVE: {"start": 3, "divide": 33}}), ("loop", LOOP, 7, {FIVE: {"start": 3, "redirect": 4}}),
+            # in the cycle in which the host takes its item, the core has ended
+            ("the program of the document", TICK_BY_TICK, 7, {
+                PLAIN: {"done": 1}, THREE: {"start": 2, "hold": 2, "operand": 1, "redirect": 1, "done": 1},
+                FIVE: {"start": 3, "operand": 2, "redirect": 1, "done": 1}, EIGHT: {"start": 3, "operand": 7, "redirect": 1, "done": 1}})]
+    for what, words, acts, on_some in rows:
         for pipeline, wanted in on_some.items():
-            waited = Alone(pipeline, words).waited
-            check(f"reasons of {what} on {pipeline}", {reason: waited.count(reason) for reason in waited}, wanted)
+            counts = {what: count for what, count in Alone(pipeline, words).board.profiles[0].items() if count}
+            check(f"profile of {what} on {pipeline}", counts, {"acted": acts, **wanted})
 
 
 def two_loads():
@@ -195,7 +207,7 @@ def old_acts():
 
 
 def main():
-    for test in (cycles, results, reasons, two_loads, missed_gets, due_ticks, operands, deferred_breaks, takes, relay, document, stages_agree, old_acts):
+    for test in (cycles, results, profiles, two_loads, missed_gets, due_ticks, operands, deferred_breaks, takes, relay, document, stages_agree, old_acts):
         test()
     print("timing model: all worked runs agree")
 

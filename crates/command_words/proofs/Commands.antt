@@ -10,14 +10,15 @@ use Rattle.clap.specs.Kinds.{Kinds}
 use Rattle.clap.specs.Simple.{App, Shape}
 use Rattle.clap.specs.Walk.{Row, first_of}
 use Rattle.clap.specs.Words.{matches_of}
-use Rattle.command_words.specs.Splits.{IsAsmSplit, IsDemoSplit, IsDisSplit, IsRawSplit, IsRunSplit, asm_app, demo_app, dis_app, faults, raw_app, run_app, value_of}
-use Rattle.command_words.specs.Words.{Answers, Form, Text, asm_form, asm_with, demo_form, demo_with, dis_form, dis_with, is_raised, meant, raised_value, raw_form, raw_with, run_form, run_with}
+use Rattle.command_words.specs.Splits.{IsAsmSplit, IsDemoSplit, IsDisSplit, IsProfileSplit, IsRawSplit, IsRunSplit, asm_app, demo_app, dis_app, faults, profile_app, raw_app, run_app, value_of}
+use Rattle.command_words.specs.Words.{Answers, Form, Text, asm_form, asm_with, demo_form, demo_with, dis_form, dis_with, is_raised, meant, profile_form, profile_with, raised_value, raw_form, raw_with, run_form, run_with}
 use Rattle.command_words.specs.declared.command.Command.{Command}
 use Rattle.command_words.specs.declared.command.WordsFault.{WordsFault}
 use Rattle.command_words.specs.declared.command.WordsFault.TheVariants.{NoMemory, Usage}
 use Rattle.command_words.specs.declared.split.AsmWords.{AsmWords}
 use Rattle.command_words.specs.declared.split.DemoWords.{DemoWords}
 use Rattle.command_words.specs.declared.split.DisWords.{DisWords}
+use Rattle.command_words.specs.declared.split.ProfileWords.{ProfileWords}
 use Rattle.command_words.specs.declared.split.RawWords.{RawWords}
 use Rattle.command_words.specs.declared.split.RunWords.{RunWords}
 use Rattle.command_words.proofs.AsmTable.{asm_is, asm_top, ended, order_is, placed_is, with_order}
@@ -25,10 +26,11 @@ use Rattle.command_words.proofs.DemoTable.{demo_defaults, demo_is, demo_top}
 use Rattle.command_words.proofs.DisTable.{dis_defaults, dis_is, dis_top}
 use Rattle.command_words.proofs.Law.{IsPlainApp, law, no_default_rows, rows_in}
 use Rattle.command_words.proofs.Meanings.{IsSound, judged, reading_means, text_of, texts_at}
+use Rattle.command_words.proofs.ProfileTable.{profile_defaults, profile_is, profile_options, profile_top}
 use Rattle.command_words.proofs.RawTable.{raw_defaults, raw_is, raw_top}
 use Rattle.command_words.proofs.Rows.{Answer}
 use Rattle.command_words.proofs.RunTable.{run_defaults, run_is, run_options, run_top}
-use Rattle.command_words.proofs.Sounds.{asm_sound, demo_sound, dis_sound, raw_sound, run_sound}
+use Rattle.command_words.proofs.Sounds.{asm_sound, demo_sound, dis_sound, profile_sound, raw_sound, run_sound}
 use Rattle.command_words.proofs.Walks.{Agrees}
 
 -- ---- any command
@@ -74,6 +76,9 @@ dis_places = codes "IMAGE" ∷ []
 abbrev demo_places : List Text
 demo_places = codes "N" ∷ []
 
+abbrev profile_places : List Text
+profile_places = codes "BOARD" ∷ []
+
 pub raw_refused : (words : List Text) → (faults raw_app words ≡ [] → ⊥) → meant raw_form (drop 1 words) ≡ None
 unfolding faults raw_form
 raw_refused words some = refused raw_app raw_top raw_form raw_places raw_is raw_sound words some
@@ -93,6 +98,10 @@ dis_refused words some = refused dis_app dis_top dis_form dis_places dis_is dis_
 pub demo_refused : (words : List Text) → (faults demo_app words ≡ [] → ⊥) → meant demo_form (drop 1 words) ≡ None
 unfolding faults demo_form
 demo_refused words some = refused demo_app demo_top demo_form demo_places demo_is demo_sound words some
+
+pub profile_refused : (words : List Text) → (faults profile_app words ≡ [] → ⊥) → meant profile_form (drop 1 words) ≡ None
+unfolding faults profile_form
+profile_refused words some = refused profile_app profile_top profile_form profile_places profile_is profile_sound words some
 
 two : (a b c d : List Text) → a ≡ c → b ≡ d → raw_with (a ++ (b ++ [])) ≡ raw_with (c ++ d)
 two a b c d p q = rw (append-nil b, p, q) refl
@@ -162,6 +171,18 @@ unfolding faults demo_form value_of
 demo_means words split s =
     let rows = no_default_rows demo_app demo_top [] [] demo_places demo_is demo_defaults words in
     taken demo_app demo_top demo_form demo_places demo_is demo_sound words s.taken ∙ sole _ _ (ap (λ rs. text_of rs (codes "N")) rows ∙ ap option_to_list (sym s.number))
+
+triple : (a b c d e f : List Text) → a ≡ d → b ≡ e → c ≡ f → profile_with (a ++ []) b c ≡ profile_with d e f
+triple a b c d e f p q r = rw (append-nil a, p, q, r) refl
+
+pub profile_means : (words : List Text) (split : ProfileWords) → IsProfileSplit words split
+    → meant profile_form (drop 1 words) ≡ profile_with (given split.board) (given split.cycles) (given split.journal)
+unfolding faults profile_form value_of
+profile_means words split s =
+    let rows = no_default_rows profile_app profile_top profile_options [] profile_places profile_is profile_defaults words in
+    taken profile_app profile_top profile_form profile_places profile_is profile_sound words s.taken
+    ∙ triple _ _ _ _ _ _ (ap (λ rs. text_of rs (codes "BOARD")) rows ∙ ap option_to_list (sym s.board)) (ap (λ rs. text_of rs (codes "cycles")) rows ∙ ap option_to_list (sym s.cycles))
+    (ap (λ rs. text_of rs (codes "journal")) rows ∙ ap option_to_list (sym s.journal))
 
 -- ---- the answers
 

@@ -8,6 +8,7 @@ pub mod Filled
 pub mod Law
 pub mod Looks
 pub mod Meanings
+pub mod ProfileTable
 pub mod RawTable
 pub mod Rows
 pub mod RunTable

@@ -2,7 +2,7 @@
 use Rattle.std.proofs.Common.{◌≡◌, true, refl}
 use Rattle.clap.specs.Words.{is_simple, is_simple_and_free}
 use Rattle.clap.proofs.OnLiterals.{clap_on_literals}
-use Rattle.command_words.specs.Splits.{asm_app, demo_app, dis_app, raw_app, run_app}
+use Rattle.command_words.specs.Splits.{asm_app, demo_app, dis_app, profile_app, raw_app, run_app}
 
 pub raw_is_simple : is_simple raw_app ≡ true
 unfolding raw_app clap_on_literals
@@ -43,3 +43,11 @@ demo_is_simple = refl
 pub demo_is_free : is_simple_and_free demo_app ≡ true
 unfolding demo_app clap_on_literals
 demo_is_free = refl
+
+pub profile_is_simple : is_simple profile_app ≡ true
+unfolding profile_app clap_on_literals
+profile_is_simple = refl
+
+pub profile_is_free : is_simple_and_free profile_app ≡ true
+unfolding profile_app clap_on_literals
+profile_is_free = refl

@@ -2,7 +2,7 @@
 use Rattle.std.proofs.Common.{◌≡◌, ℕ, ◌<◌, ◌≤◌, ◌&&◌, ◌||◌, ◌++◌, Bool, true, false, codes, refl, sym, ap, subst, arith, length, List, [], ◌∷◌, Option, Some, None, if◌then◌else◌, nat_le, option_map}
 use Rattle.std.proofs.lemmas.Bool.{false≢true}
 use Rattle.std.specs.Str.{bytes_eq}
-use Rattle.command_words.specs.Words.{Text, asm_form, asm_of, asm_with, at_most_once, decimal_value, demo_form, demo_with, dis_form, dis_with, file_in, is_one_of, is_raised, number_in, raised_value, raw_form, raw_of, raw_with, run_form, run_of, run_with, most_cycles, most_entries, most_number}
+use Rattle.command_words.specs.Words.{Text, asm_form, asm_of, asm_with, at_most_once, decimal_value, demo_form, demo_with, dis_form, dis_with, file_in, is_one_of, is_raised, number_in, raised_value, raw_form, raw_of, raw_with, run_form, run_of, run_with, most_cycles, most_entries, most_number, profile_form, profile_of, profile_with}
 use Rattle.command_words.specs.declared.command.Command.TheVariants.{Dis}
 use Rattle.command_words.proofs.Filled.{text_is}
 use Rattle.command_words.proofs.Meanings.{IsSound}
@@ -258,4 +258,66 @@ demo_sound = record {
   twice = λ xs f n is. absurd (false≢true is);
   place = λ front rest back f. demo_dash front rest back;
   value = λ xs f n front rest back is. absurd (false≢true is);
+}
+
+-- ---- `profile`
+
+no_limit : (b : Option Text) (j : Option ℕ) → profile_of b None j ≡ None
+no_limit None j = refl
+no_limit (Some b) j = refl
+
+no_room : (b : Option Text) (c : Option ℕ) → profile_of b c None ≡ None
+no_room None c = refl
+no_room (Some b) None = refl
+no_room (Some b) (Some c) = refl
+
+limit_none : (xs c j : List Text) → Bad c → profile_with xs c j ≡ None
+limit_none [] c j bad = refl
+limit_none (b ∷ []) c j bad = rw (bad.number 10_000_000 most_cycles) (no_limit (file_in b) _)
+limit_none (a ∷ b ∷ xs) c j bad = refl
+
+room_none : (xs c j : List Text) → Bad j → profile_with xs c j ≡ None
+room_none [] c j bad = refl
+room_none (b ∷ []) c j bad = rw (bad.number 1_048_576 most_entries) (no_room (file_in b) _)
+room_none (a ∷ b ∷ xs) c j bad = refl
+
+-- what holds of each option
+each_of_two : (P : Text → Type 0) → P (codes "cycles") → P (codes "journal") → (n : Text) (a b : Bool)
+    → bytes_eq (codes "cycles") n ≡ a → bytes_eq (codes "journal") n ≡ b → (a || (b || false)) ≡ true → P n
+each_of_two P p q n true b is _ h = subst P (text_is (codes "cycles") n is) p
+each_of_two P p q n false true _ is h = subst P (text_is (codes "journal") n is) q
+each_of_two P p q n false false _ _ h = absurd (false≢true h)
+
+one_of_two : (P : Text → Type 0) → P (codes "cycles") → P (codes "journal") → (n : Text) → is_one_of (codes "cycles" ∷ codes "journal" ∷ []) n ≡ true → P n
+one_of_two P p q n h = each_of_two P p q n (bytes_eq (codes "cycles") n) (bytes_eq (codes "journal") n) refl refl h
+
+profile_many : (xs c j : List Text) → 1 < length xs → profile_with xs c j ≡ None
+profile_many [] c j long = refl
+profile_many (b ∷ []) c j long = absurd (omega arith)
+profile_many (a ∷ b ∷ xs) c j long = refl
+
+profile_dash : (front : List Text) (rest : Text) (back c j : List Text) → profile_with (front ++ (45 ∷ rest) ∷ back) c j ≡ None
+profile_dash [] rest [] c j = rw (file_dash rest) refl
+profile_dash [] rest (b ∷ back) c j = refl
+profile_dash (a ∷ []) rest back c j = refl
+profile_dash (a ∷ b ∷ front) rest back c j = refl
+
+profile_bad : (xs : List Text) (f : Text → List Text) (n : Text) → is_one_of (codes "cycles" ∷ codes "journal" ∷ []) n ≡ true → Bad (f n)
+    → profile_with xs (f (codes "cycles")) (f (codes "journal")) ≡ None
+profile_bad xs f n is =
+    one_of_two (λ m. Bad (f m) → profile_with xs (f (codes "cycles")) (f (codes "journal")) ≡ None) (limit_none xs _ _) (room_none xs _ _) n is
+
+pair : (xs : List Text) (a b c d : List Text) → a ≡ c → b ≡ d → profile_with xs a b ≡ profile_with xs c d
+pair xs a b c d p q = rw (p, q) refl
+
+pub profile_sound : IsSound profile_form (codes "BOARD" ∷ [])
+unfolding profile_form
+profile_sound = record {
+  distinct = (refl, tt);
+  apart = one_of_two (λ n. is_one_of (codes "BOARD" ∷ []) n ≡ false) refl refl;
+  same = λ xs f g e. pair xs _ _ _ _ (e (codes "cycles") refl) (e (codes "journal") refl);
+  many = λ xs f long. profile_many xs _ _ long;
+  twice = λ xs f n is long. profile_bad xs f n is (bad_twice (f n) long);
+  place = λ front rest back f. profile_dash front rest back _ _;
+  value = λ xs f n front rest back is e. profile_bad xs f n is (subst Bad (sym e) (bad_dash front rest back));
 }

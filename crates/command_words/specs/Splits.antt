@@ -11,6 +11,7 @@ use Rattle.command_words.specs.Words.{Text, raised_value}
 use Rattle.command_words.specs.declared.split.AsmWords.{AsmWords}
 use Rattle.command_words.specs.declared.split.DemoWords.{DemoWords}
 use Rattle.command_words.specs.declared.split.DisWords.{DisWords}
+use Rattle.command_words.specs.declared.split.ProfileWords.{ProfileWords}
 use Rattle.command_words.specs.declared.split.RawWords.{RawWords}
 use Rattle.command_words.specs.declared.split.RunWords.{RunWords}
 
@@ -43,6 +44,11 @@ dis_app = with_rule (without_help (new_app (codes "dis"))) (new_rule (codes "IMA
 
 unfoldable pub demo_app : App
 demo_app = with_rule (without_help (new_app (codes "demo"))) (new_rule (codes "N"))
+
+unfoldable pub profile_app : App
+profile_app =
+    with_rule (with_rule (with_rule (without_help (new_app (codes "profile"))) (new_rule (codes "BOARD"))) (option (codes "cycles")))
+    (option (codes "journal"))
 
 -- the kinds of fault of the words
 unfoldable pub faults : App → List Text → Kinds
@@ -82,3 +88,10 @@ pub record IsDisSplit (words : List Text) (split : DisWords) : Type 0 where
 pub record IsDemoSplit (words : List Text) (split : DemoWords) : Type 0 where
   pub taken : faults demo_app words ≡ []
   pub number : option_map (λ w. w.now) split.number ≡ value_of demo_app words (codes "N")
+
+-- the same of `profile`
+pub record IsProfileSplit (words : List Text) (split : ProfileWords) : Type 0 where
+  pub taken : faults profile_app words ≡ []
+  pub board : option_map (λ w. w.now) split.board ≡ value_of profile_app words (codes "BOARD")
+  pub cycles : option_map (λ w. w.now) split.cycles ≡ value_of profile_app words (codes "cycles")
+  pub journal : option_map (λ w. w.now) split.journal ≡ value_of profile_app words (codes "journal")

@@ -5,7 +5,7 @@ use Rattle.std.specs.List.{after_first, before_first, flat_map, list_all, list_a
 use Rattle.std.specs.Str.{bytes_eq}
 use Rattle.host_io.specs.Names.{is_file_name}
 use Rattle.command_words.specs.declared.command.Command.{Command}
-use Rattle.command_words.specs.declared.command.Command.TheVariants.{Asm, Demo, Dis, Raw, Run}
+use Rattle.command_words.specs.declared.command.Command.TheVariants.{Asm, Demo, Dis, Profile, Raw, Run}
 use Rattle.command_words.specs.declared.command.WordsFault.{WordsFault}
 use Rattle.command_words.specs.declared.command.WordsFault.TheVariants.{NoMemory, Usage}
 
@@ -188,6 +188,16 @@ abbrev pub demo_with : List Text → Option Command
 demo_with (number ∷ []) = option_map Demo (number_in most_number number)
 demo_with _ = None
 
+abbrev pub profile_of : Option Text → Option ℕ → Option ℕ → Option Command
+profile_of (Some board) (Some cycles) (Some journal) = Some (Profile board cycles journal)
+profile_of _ _ _ = None
+
+-- `profile BOARD [--cycles N] [--journal N]`
+abbrev pub profile_with : List Text → List Text → List Text → Option Command
+profile_with (board ∷ []) cycles journal =
+    profile_of (file_in board) (at_most_once 10_000_000 (number_in most_cycles) cycles) (at_most_once 1_048_576 (number_in most_entries) journal)
+profile_with _ cycles journal = None
+
 unfoldable pub raw_form : Form
 raw_form = record { options = []; flags = []; meaning = λ words values. raw_with words }
 
@@ -207,6 +217,13 @@ dis_form = record { options = []; flags = []; meaning = λ words values. dis_wit
 unfoldable pub demo_form : Form
 demo_form = record { options = []; flags = []; meaning = λ words values. demo_with words }
 
+unfoldable pub profile_form : Form
+profile_form = record {
+  options = codes "cycles" ∷ codes "journal" ∷ [];
+  flags = [];
+  meaning = λ words values. profile_with words (values (codes "cycles")) (values (codes "journal"));
+}
+
 -- what these words after the command mean to it
 abbrev pub meant : Form → List Text → Option Command
 meant form words = said form (parts form.flags None words)
@@ -220,6 +237,7 @@ command_of (word ∷ words) =
     else if bytes_eq word (codes "asm") then meant asm_form words
     else if bytes_eq word (codes "dis") then meant dis_form words
     else if bytes_eq word (codes "demo") then meant demo_form words
+    else if bytes_eq word (codes "profile") then meant profile_form words
     else None
 
 -- the answer to words of this meaning

@@ -26,6 +26,12 @@ pub enum Command {
     Dis {
         image: FileName,
     },
+    /// `profile BOARD`: runs a board as `run` does, writes no file, and tells what the ticks of each core were spent on.
+    Profile {
+        board: FileName,
+        cycles: u64,
+        journal: u32,
+    },
     /// `demo N`: runs the ring of a number under three orders.
     Demo {
         number: u32,

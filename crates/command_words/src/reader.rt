@@ -1,12 +1,12 @@
 ghost use Rattle.std.specs.Prelude.{◌≡◌, ◌∷◌, ◌++◌, [], None, Some, drop, if◌then◌else◌, map, option_map, option_to_list};
 ghost use Rattle.command_words.specs.Words;
-ghost use Rattle.command_words.specs.Words.{Answers, asm_form, asm_with, at_most_once, command_of, demo_form, demo_with, dis_form, dis_with, meant, most_cycles, most_entries, raised_value, raw_form, raw_with, run_form, run_with};
+ghost use Rattle.command_words.specs.Words.{Answers, asm_form, asm_with, at_most_once, command_of, demo_form, demo_with, dis_form, dis_with, meant, most_cycles, most_entries, profile_form, profile_with, raised_value, raw_form, raw_with, run_form, run_with};
 
 use crate::command::{Command, WordsFault};
 use crate::number::number_in;
 use crate::split::{
-    AsmWords, DemoWords, DisWords, RawWords, RunWords, split_asm, split_demo, split_dis, split_raw,
-    split_run,
+    AsmWords, DemoWords, DisWords, ProfileWords, RawWords, RunWords, split_asm, split_demo,
+    split_dis, split_profile, split_raw, split_run,
 };
 use host_io::FileName;
 use std::alloc::Global;
@@ -33,6 +33,7 @@ pub fn read_words(alloc: Global, words: &[&str]) -> Result<Command, WordsFault>
         [command, ..] if *command == "asm" => read_asm(alloc, words),
         [command, ..] if *command == "dis" => read_dis(alloc, words),
         [command, ..] if *command == "demo" => read_demo(alloc, words),
+        [command, ..] if *command == "profile" => read_profile(alloc, words),
         _ => Err(WordsFault::Usage),
     }
 }
@@ -75,6 +76,14 @@ fn read_demo<'a>(alloc: Global, words: &'a [&'a str]) -> Result<Command, WordsFa
 {
     let split = split_demo(alloc, words)?;
     demo(split).ok_or(WordsFault::Usage)
+}
+
+/// Reads the words of `profile`, the first of which is the command.
+fn read_profile<'a>(alloc: Global, words: &'a [&'a str]) -> Result<Command, WordsFault>
+    ensures { Answers (meant profile_form (drop 1 (map (λ word. word.now) words.now))) result }
+{
+    let split = split_profile(alloc, words)?;
+    profile(split).ok_or(WordsFault::Usage)
 }
 
 fn raw(split: RawWords) -> Option<Command>
@@ -124,6 +133,19 @@ fn demo(split: DemoWords) -> Option<Command>
 {
     let number = number_in(MOST_NUMBER, split.number?)? as u32;
     Some(Command::Demo { number })
+}
+
+fn profile(split: ProfileWords) -> Option<Command>
+    ensures { result ≡ profile_with (option_to_list (option_map (λ w. w.now) split.entry.board)) (option_to_list (option_map (λ w. w.now) split.entry.cycles)) (option_to_list (option_map (λ w. w.now) split.entry.journal)) }
+{
+    let board = file_in(split.board?)?;
+    let cycles = cycles_in(split.cycles)?;
+    let journal = entries_in(split.journal)?;
+    Some(Command::Profile {
+        board,
+        cycles,
+        journal,
+    })
 }
 
 /// The name of a file.

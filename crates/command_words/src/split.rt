@@ -3,7 +3,7 @@ ghost use Rattle.std.specs.Prelude.{◌≡◌, ◌≢◌, [], false, map, option
 ghost use Rattle.std.specs.Option.{option_map_or};
 ghost use Rattle.std.specs.Str.{bytes_eq};
 ghost use Rattle.clap.specs.Words.{app_of};
-ghost use Rattle.command_words.specs.Splits.{IsAsmSplit, IsDemoSplit, IsDisSplit, IsRawSplit, IsRunSplit, asm_app, demo_app, dis_app, faults, raw_app, run_app};
+ghost use Rattle.command_words.specs.Splits.{IsAsmSplit, IsDemoSplit, IsDisSplit, IsProfileSplit, IsRawSplit, IsRunSplit, asm_app, demo_app, dis_app, faults, profile_app, raw_app, run_app};
 ghost use Rattle.command_words.specs.Words.{raised_value};
 
 use crate::command::WordsFault;
@@ -39,6 +39,14 @@ pub struct AsmWords<'a> {
 #[derive(Clone, Copy, Debug, PartialEq, Eq)]
 pub struct DisWords<'a> {
     pub image: Option<&'a str>,
+}
+
+/// The texts of `profile BOARD [--cycles N] [--journal N]`.
+#[derive(Clone, Copy, Debug, PartialEq, Eq)]
+pub struct ProfileWords<'a> {
+    pub board: Option<&'a str>,
+    pub cycles: Option<&'a str>,
+    pub journal: Option<&'a str>,
 }
 
 /// The text of `demo N`.
@@ -95,6 +103,19 @@ fn dis_command<'a>(alloc: Global) -> Result<Command<'a>, AllocError>
     Command::new(alloc, "dis")
         .disable_help_flag(true)
         .arg(image)
+}
+
+fn profile_command<'a>(alloc: Global) -> Result<Command<'a>, AllocError>
+    ensures { IfOk result (λ c. app_of c ≡ profile_app) }
+{
+    let board = Arg::new(alloc, "BOARD");
+    let cycles = Arg::new(alloc, "cycles").long("cycles");
+    let journal = Arg::new(alloc, "journal").long("journal");
+    Command::new(alloc, "profile")
+        .disable_help_flag(true)
+        .arg(board)?
+        .arg(cycles)?
+        .arg(journal)
 }
 
 fn demo_command<'a>(alloc: Global) -> Result<Command<'a>, AllocError>
@@ -221,6 +242,33 @@ pub fn split_demo<'a>(alloc: Global, words: &'a [&'a str]) -> Result<DemoWords<'
     match command.try_get_matches_from(words) {
         Ok(matches) => Ok(DemoWords {
             number: matches.get_str("N"),
+        }),
+        Err(error) => {
+            if error.kind() == ErrorKind::OutOfMemory {
+                Err(WordsFault::NoMemory)
+            } else {
+                Err(WordsFault::Usage)
+            }
+        }
+    }
+}
+
+/// Splits the words of `profile`, the first of which is the command.
+pub fn split_profile<'a>(
+    alloc: Global,
+    words: &'a [&'a str],
+) -> Result<ProfileWords<'a>, WordsFault>
+    ensures ok { IfOk result (IsProfileSplit (map (λ w. w.now) words.entry.now)) }
+    ensures usage { IsErrOf result WordsFault.Usage → faults profile_app (map (λ w. w.now) words.entry.now) ≢ [] }
+{
+    let Ok(command) = profile_command(alloc) else {
+        return Err(WordsFault::NoMemory);
+    };
+    match command.try_get_matches_from(words) {
+        Ok(matches) => Ok(ProfileWords {
+            board: matches.get_str("BOARD"),
+            cycles: matches.get_str("cycles"),
+            journal: matches.get_str("journal"),
         }),
         Err(error) => {
             if error.kind() == ErrorKind::OutOfMemory {

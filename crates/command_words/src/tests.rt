@@ -9,6 +9,7 @@ enum Said<'a> {
     Asm(&'a str, &'a str, bool),
     Dis(&'a str),
     Demo(u32),
+    Profile(&'a str, u64, u32),
     Fault(WordsFault),
 }
 
@@ -40,13 +41,20 @@ fn answered(answer: &Result<Command, WordsFault>) -> Said<'_> {
         ) => Said::Asm(source.as_text(), output.as_text(), *is_little),
         Ok(Command::Dis { image }) => Said::Dis(image.as_text()),
         Ok(Command::Demo { number }) => Said::Demo(*number),
+        Ok(
+            Command::Profile {
+                board,
+                cycles,
+                journal,
+            },
+        ) => Said::Profile(board.as_text(), *cycles, *journal),
         Err(fault) => Said::Fault(*fault),
     }
 }
 
 #[test]
 fn words_mean_commands(rt: HostRuntime) -> Result<(), Fail> {
-    let rows: [(&[&str], Said); 18] = [
+    let rows: [(&[&str], Said); 21] = [
         (&["raw", "image", "007"], Said::Raw("image", 7)),
         (
             &["raw", "--", "a/b", "1000000000000"],
@@ -89,6 +97,15 @@ fn words_mean_commands(rt: HostRuntime) -> Result<(), Fail> {
         (&["dis", "--", "dis"], Said::Dis("dis")),
         (&["demo", "007"], Said::Demo(7)),
         (&["demo", "--", "999999"], Said::Demo(999_999)),
+        (&["profile", "b"], Said::Profile("b", 10_000_000, 1_048_576)),
+        (
+            &["profile", "--cycles=5", "b", "--journal", "33554432"],
+            Said::Profile("b", 5, 33_554_432),
+        ),
+        (
+            &["profile", "--", "b"],
+            Said::Profile("b", 10_000_000, 1_048_576),
+        ),
     ];
     for (words, wanted) in rows {
         let answer = read_words(rt.alloc(), words);
@@ -99,7 +116,7 @@ fn words_mean_commands(rt: HostRuntime) -> Result<(), Fail> {
 
 #[test]
 fn other_words_are_refused(rt: HostRuntime) -> Result<(), Fail> {
-    let rows: [&[&str]; 40] = [
+    let rows: [&[&str]; 45] = [
         &[],
         &["asm"],
         &["asm", "a"],
@@ -140,6 +157,11 @@ fn other_words_are_refused(rt: HostRuntime) -> Result<(), Fail> {
         &["demo", "1", "2"],
         &["demo", "1000000"],
         &["demo", "1", "--cycles=5"],
+        &["profile"],
+        &["profile", "b", "c"],
+        &["profile", "b", "--write-journal", "out"],
+        &["profile", "b", "--cycles", "1000000000001"],
+        &["profile", "b", "--journal=5", "--journal=5"],
     ];
     for words in rows {
         let answer = read_words(rt.alloc(), words);

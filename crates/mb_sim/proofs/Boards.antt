@@ -164,14 +164,14 @@ wrote_no_memory old new [] h = absurd h
 wrote_no_memory old new (o ∷ os) (inl h) = ap (λ (f : ShelfFaults). f.write_faults) h.1
 wrote_no_memory old new (o ∷ os) (inr h) = wrote_no_memory h.0 new os h.2 ∙ ap (λ (f : ShelfFaults). f.write_faults) h.1.1
 
-ended_loads : (how : RunEnd) (before now : ℕ) → now ≡ before → CountsLoads before now (status_of how)
+pub ended_loads : (how : RunEnd) (before now : ℕ) → now ≡ before → CountsLoads before now (status_of how)
 ended_loads (end.Rest rest.Ended) before now e = e
 ended_loads (end.Rest rest.Waiting) before now e = e
 ended_loads (end.Rest rest.Stopped) before now e = e
 ended_loads end.CyclesSpent before now e = e
 ended_loads end.JournalFull before now e = e
 
-ended_writes : (how : RunEnd) (before now : ℕ) → now ≡ before → CountsWrites before now (status_of how)
+pub ended_writes : (how : RunEnd) (before now : ℕ) → now ≡ before → CountsWrites before now (status_of how)
 ended_writes (end.Rest rest.Ended) before now e = e
 ended_writes (end.Rest rest.Waiting) before now e = e
 ended_writes (end.Rest rest.Stopped) before now e = e

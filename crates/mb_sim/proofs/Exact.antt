@@ -8,11 +8,12 @@ use Rattle.board_machine.specs.declared.events.RunEnd.TheVariants as end
 use Rattle.board_machine.specs.declared.events.Rest.TheVariants as rest
 use Rattle.exact_machine.specs.Machine.{ExactWorld}
 use Rattle.command_words.specs.declared.command.Command.{Command}
-use Rattle.command_words.specs.declared.command.Command.TheVariants.{Asm, Demo, Dis, Raw, Run}
+use Rattle.command_words.specs.declared.command.Command.TheVariants.{Asm, Demo, Dis, Profile, Raw, Run}
 use Rattle.mb_sim.specs.declared.status.Status.{Status}
 use Rattle.mb_sim.specs.declared.status.Status.TheVariants.{Ended, Stopped, CyclesSpent, JournalFull, Usage, ReadFault, BadBoard, BadImage, WriteFault, NoMemory, BadInput, BadSource, TooLong, Waiting}
 use Rattle.source_tools.specs.declared.refusal.Refusal.TheVariants as refusal
 use Rattle.mb_sim.specs.Board.{no_memory}
+use Rattle.mb_sim.specs.Profiled.{no_memory as no_memory_to_count}
 use Rattle.mb_sim.specs.Top.{Answers, HasRun, HasRunTo, IsAnswer, IsFair, RawJob, Says}
 
 -- want of memory before anything was done
@@ -22,6 +23,7 @@ nothing_done (Some (Raw file cycles)) shelf out = record { says = inl refl; file
 nothing_done (Some (Run board cycles entries journal)) shelf out = no_memory refl refl
 nothing_done (Some (Asm source output is_little)) shelf out = record { answer = Err refusal.NoMemory; told = refl; says = inl refl; quiet = refl }
 nothing_done (Some (Dis image)) shelf out = record { answer = Err refusal.NoMemory; told = refl; says = inl (refl, refl) }
+nothing_done (Some (Profile board cycles entries)) shelf out = no_memory_to_count refl refl
 nothing_done (Some (Demo number)) shelf out = record { shown = record { result = Err store.NoMemory; shows = inl refl; is = refl }; quiet = refl }
 
 -- what is said of told files is said of these

@@ -30,7 +30,7 @@ ended end.CyclesSpent = tt
 ended end.JournalFull = tt
 
 -- a mishap at loading is a fault that rose, or want of memory
-mishap : (words : RunWords) (shelf shelf' : ShelfState) (out out' : SinkState) (cause : Refusal) → IsFairRun words.file words.journal shelf shelf' out out'
+pub mishap : (words : RunWords) (shelf shelf' : ShelfState) (out out' : SinkState) (cause : Refusal) → IsFairRun words.file words.journal shelf shelf' out out'
     → IsMishap shelf shelf' cause → HasRun (status_of_refusal cause)
 mishap words shelf shelf' out out' refusal.NoMemory fair h = tt
 mishap words shelf shelf' out out' (refusal.CannotRead name) fair h = absurd (fair.loads h)
@@ -46,7 +46,7 @@ stored : (words : RunWords) (shelf shelf' : ShelfState) (out out' : SinkState) (
 stored words shelf shelf' out out' board last output.NoMemory fair puts = tt
 stored words shelf shelf' out out' board last (output.Failed file) fair puts = absurd (fair.stores puts.places.4.writes.0)
 
-printed : (words : RunWords) (shelf shelf' : ShelfState) (out out' : SinkState) (text : List ℕ) (fault : StoreFault)
+pub printed : (words : RunWords) (shelf shelf' : ShelfState) (out out' : SinkState) (text : List ℕ) (fault : StoreFault)
     → IsFairRun words.file words.journal shelf shelf' out out' → Adds out out' text (Err fault) → HasRun (status_of_sink fault)
 printed words shelf shelf' out out' text store.NoMemory fair adds = tt
 printed words shelf shelf' out out' text store.Failed fair adds = absurd (fair.writes adds.1.0)

@@ -1,5 +1,6 @@
 mod Images
 mod Printed
+mod Profiles
 mod Limits
 mod Boards
 mod Exact

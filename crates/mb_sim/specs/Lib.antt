@@ -4,6 +4,7 @@ pub mod Raw
 pub mod Board
 pub mod Demo
 pub mod Top
+pub mod Profiled
 pub mod Program
 pub mod ToolStatus
 pub mod Tools

@@ -13,11 +13,12 @@ use Rattle.board_machine.specs.World.{Inputs}
 use Rattle.exact_machine.specs.Machine.{ExactWorld}
 use Rattle.board_run.specs.Runs.{IsRunOf}
 use Rattle.command_words.specs.declared.command.Command.{Command}
-use Rattle.command_words.specs.declared.command.Command.TheVariants.{Asm, Demo, Dis, Raw, Run}
+use Rattle.command_words.specs.declared.command.Command.TheVariants.{Asm, Demo, Dis, Profile, Raw, Run}
 use Rattle.mb_sim.specs.declared.status.Status.{Status}
 use Rattle.mb_sim.specs.declared.status.Status.TheVariants.{Ended, Waiting, Stopped, CyclesSpent, JournalFull, Usage, ReadFault, WriteFault, NoMemory, TooLong}
 use Rattle.mb_sim.specs.Board.{Says as SaysRun}
 use Rattle.mb_sim.specs.Demo.{SaysDemo}
+use Rattle.mb_sim.specs.Profiled.{SaysProfile}
 use Rattle.mb_sim.specs.Raw.{no_inputs, printed, raw_board, raw_view}
 use Rattle.mb_sim.specs.Tools.{SaysAssembled, SaysListed}
 
@@ -89,6 +90,7 @@ Answers (Some (Run board cycles entries journal)) = SaysRun (record { file = boa
 Answers (Some (Asm source output is_little)) = SaysAssembled source output is_little
 Answers (Some (Dis image)) = SaysListed image
 Answers (Some (Demo number)) = SaysDemo number
+Answers (Some (Profile board cycles entries)) = SaysProfile (record { file = board; cycles = cycles; entries = entries; journal = None })
 
 -- a load that failed is answered by its fault
 abbrev pub CountsLoads : ℕ → ℕ → Status → Type 0

@@ -379,7 +379,7 @@ fn breaks_wait_for_prefixes_slots_and_atomic_puts(rt: HostRuntime) -> Result<(),
 }
 
 /// A load of 40, ten loads from there that each need the one before, and the branch to itself; 40 at 40.
-const LOAD_CHAIN: &str =
+pub(crate) const LOAD_CHAIN: &str =
     "30600040 E8630000 E8630000 E8630000 E8630000 E8630000 E8630000 E8630000 E8630000 E8630000 E8630000 B8000000 00000000 00000000 00000000 00000000 00000040";
 
 const FULL: &str = "status 10 cycles 0 entries 0

@@ -1,8 +1,9 @@
-//! An emulator of MicroBlaze boards: `mbsim run BOARD`, `mbsim raw FILE CYCLES` for one core and `mbsim demo N` for a ring;
+//! An emulator of MicroBlaze boards: `mbsim run BOARD`, `mbsim profile BOARD`, `mbsim raw FILE CYCLES` for one core and
+//! `mbsim demo N` for a ring;
 //! `mbsim asm SOURCE OUTPUT` and `mbsim dis IMAGE` for their programs.
 //!
 //! `mbsim` (in `top`) is the program without its outside: it does what the words say on any shelf of files and any streams,
-//! and answers a `Status`. `run`, `raw`, `ring` and `tools` do the commands; `tell` makes the line of a status for standard error. `main`
+//! and answers a `Status`. `run`, `profile`, `raw`, `ring` and `tools` do the commands; `tell` makes the line of a status for standard error. `main`
 //! hands on the words of the process, its files and its streams, and ends with the number of the status.
 #![tactic(auto)]
 
@@ -11,6 +12,9 @@ mod board_tests;
 #[cfg(test)]
 mod device_tests;
 mod print;
+mod profile;
+#[cfg(test)]
+mod profile_tests;
 mod program;
 mod raw;
 mod ring;

@@ -34,15 +34,15 @@ pub struct RunWords {
 
 /// A board before its first event, and the memory for what its run puts out.
 #[derive(Drop)]
-struct Ready {
-    board: Board<AnyCore>,
-    outputs: Outputs,
+pub(crate) struct Ready {
+    pub(crate) board: Board<AnyCore>,
+    pub(crate) outputs: Outputs,
 }
 
 /// How the cores of a board stand.
 #[derive(Clone, Copy)]
-struct BoardEnds<'a> {
-    board: &'a Board<AnyCore>,
+pub(crate) struct BoardEnds<'a> {
+    pub(crate) board: &'a Board<AnyCore>,
 }
 
 impl CoreEnds for BoardEnds<'_> {
@@ -92,7 +92,7 @@ pub fn run<S: Shelf, O: Sink>(
 }
 
 /// The status of a board that isn't run.
-fn status_of_refusal(refusal: Refusal) -> Status
+pub(crate) fn status_of_refusal(refusal: Refusal) -> Status
     ensures { result ≡ status_of_refusal refusal }
 {
     match refusal {
@@ -107,7 +107,7 @@ fn status_of_refusal(refusal: Refusal) -> Status
 }
 
 /// Takes all the memory that the run needs; `None` for want of it.
-fn make_ready(alloc: Global, job: Job, entries: u32) -> Option<Ready>
+pub(crate) fn make_ready(alloc: Global, job: Job, entries: u32) -> Option<Ready>
     requires new { AreNew job.board.cores (map any_state job.cores.items) }
     requires buildable { IsBuildable job.board }
     ensures file { IfSome result (λ r. r.outputs ≡ job.board) }

@@ -2,11 +2,12 @@
 ghost use Rattle.std.specs.Prelude.{◌≡◌, ◌<◌, ◌≤◌, Bool, None, Option, Some, List, ℕ, map, length};
 ghost use Rattle.host_io.specs.Outside.{Rose};
 ghost use Rattle.command_words.specs.Words.{command_of};
-ghost use Rattle.command_words.specs.declared.command.Command.TheVariants.{Asm as AsmOf, Demo as DemoOf, Dis as DisOf, Raw as RawWords, Run as RunOf};
+ghost use Rattle.command_words.specs.declared.command.Command.TheVariants.{Asm as AsmOf, Demo as DemoOf, Dis as DisOf, Profile as ProfileOf, Raw as RawWords, Run as RunOf};
 ghost use Rattle.mb_sim.specs.Lines.{told};
 ghost use Rattle.mb_sim.specs.ToolStatus.{AsmIsExact, DisIsExact};
 ghost use Rattle.mb_sim.specs.Top.{Answers, CountsLoads, CountsWrites, HasRun, IsAnswer, IsFair, IsFairRun, IsTold};
 
+use crate::profile::profile;
 use crate::raw::raw;
 use crate::ring::show_ring;
 use crate::run::{RunWords, run};
@@ -58,6 +59,11 @@ pub fn mbsim<S: Shelf, C: Source, O: Sink, E: Sink>(
     ensures complete_dis { (image : List ℕ)
         → command_of (map (λ word. word.now) words.now) ≡ Some (DisOf image)
         → DisIsExact image (S.state shelf.old) (S.state shelf.new) (O.state out.old) (O.state out.new) result }
+    // and by `profile` too
+    ensures complete_profile { (file : List ℕ) (cycles entries : ℕ)
+        → command_of (map (λ word. word.now) words.now) ≡ Some (ProfileOf file cycles entries)
+        → IsFairRun file None (S.state shelf.old) (S.state shelf.new) (O.state out.old) (O.state out.new)
+        → HasRun result }
     // where no fault was counted, a ring is run in each order
     ensures complete_demo { (number : ℕ)
         → command_of (map (λ word. word.now) words.now) ≡ Some (DemoOf number)
@@ -113,6 +119,24 @@ fn obey<S: Shelf, O: Sink>(
         ) => assemble(alloc, &source, &output, is_little, shelf),
         Ok(Command::Dis { image }) => disassemble(alloc, &image, shelf, out),
         Ok(Command::Demo { number }) => show_ring(alloc, number, out),
+        Ok(
+            Command::Profile {
+                board,
+                cycles,
+                journal,
+            },
+        ) => profile(
+            alloc,
+            &RunWords {
+                file: board,
+                cycles,
+                entries: journal,
+                journal: None,
+            },
+            shelf,
+            out,
+            probes,
+        ),
         Err(WordsFault::Usage) => Status::Usage,
         Err(WordsFault::NoMemory) => Status::NoMemory,
     }

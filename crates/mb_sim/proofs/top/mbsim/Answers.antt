@@ -1,6 +1,7 @@
 use Rattle.mb_sim.proofs.Demos.{demo_runs}
 use Rattle.mb_sim.proofs.Exact.{completes, long_answer}
 use Rattle.mb_sim.proofs.FairRuns.{runs_whole}
+use Rattle.mb_sim.proofs.Profiles.{profiles_whole}
 use Rattle.mb_sim.proofs.ToolSays.{assembles, lists}
 use Rattle.mb_sim.proofs.top.mbsim.Goals as goal
 
@@ -21,3 +22,6 @@ returns-clause-complete_dis g c image is = lists _ image _ _ _ _ _ c.obey-status
 
 pub returns-clause-complete_demo : goal.returns-clause-complete_demo
 returns-clause-complete_demo g c number is quiet = demo_runs _ number _ _ _ _ _ c.obey-status.ensures.says is quiet
+
+pub returns-clause-complete_profile : goal.returns-clause-complete_profile
+returns-clause-complete_profile g c file cycles entries is fair = profiles_whole _ file cycles entries _ _ _ _ _ c.obey-status.ensures.says is fair

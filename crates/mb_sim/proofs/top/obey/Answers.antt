@@ -49,3 +49,13 @@ returns-in-Ok-Demo-clause-loads g c = same_loads (g.S.Shelf.state c.args.shelf.n
 
 pub returns-in-Ok-Demo-clause-shelf_writes : goal.returns-in-Ok-Demo-clause-shelf_writes
 returns-in-Ok-Demo-clause-shelf_writes g c = same_writes (g.S.Shelf.state c.args.shelf.now).faults.write_faults c.show_ring.result
+
+pub profile-requires : goal.profile-requires
+profile-requires g c =
+    let small = command_small (map (λ word. word.now) c.args.words.now) c.in-Ok-Profile.field-0 c.in-Ok-Profile.ensures in
+    record { few = (subst IsSmall c.in-Ok-Profile.field-0-is small).cycles }
+
+pub returns-in-Ok-Profile-clause-says : goal.returns-in-Ok-Profile-clause-says
+returns-in-Ok-Profile-clause-says g c =
+    let P : Option Command → Type 0 = λ o. Answers o (g.S.Shelf.state c.args.shelf.now) (g.S.Shelf.state c.profile.new.shelf) (g.O.Sink.state c.args.out.now) (g.O.Sink.state c.profile.new.out) c.profile.result in
+    subst P (sym (c.in-Ok-Profile.ensures ∙ ap Some c.in-Ok-Profile.field-0-is)) c.profile.ensures.says

@@ -1,0 +1,47 @@
+use Rattle.std.proofs.Common.{◌≡◌, ℕ, List, length, map, arith, refl, sym, ap, subst, ◌∙◌}
+use Rattle.host_io.specs.Outside.{ShelfState}
+use Rattle.any_core.specs.States.{any_state}
+use Rattle.any_core.specs.declared.AnyCore.{AnyCore}
+use Rattle.mb_sim.specs.declared.status.Status.{Status}
+use Rattle.mb_sim.specs.Profiled.{SaysProfile, no_memory, refused}
+use Rattle.exact_machine.proofs.Beginning.{fresh_count}
+use Rattle.exact_machine.specs.Machine.{ExactWorld}
+use Rattle.board_file.specs.declared.board.BoardFile.{BoardFile}
+use Rattle.ring_demo.proofs.Starting.{can_run}
+use Rattle.mb_sim.proofs.Boards.{loaded_count}
+use Rattle.mb_sim.proofs.Profiles.{prints_loads, prints_stores, prints_writes, says_counted}
+use Rattle.mb_sim.proofs.profile.profile.Goals as goal
+
+pub count-requires : goal.count-requires
+count-requires g c =
+    let views = map (λ (core : AnyCore). (any_state core).view) c.in-Ok.job.cores.items in
+    record {
+      can = can_run c.in-Ok.job.board views (record { links = c.in-Ok.job.inputs.links; uarts = c.in-Ok.job.inputs.uarts }) c.args.words.now.entries c.args.words.now.cycles c.in-Some.ready.board.world
+          c.in-Some.ensures.start (omega (arith, c.requires.few));
+      count = ap (λ (x : ExactWorld). length x.cores) c.in-Some.ensures.start
+          ∙ fresh_count c.in-Ok.job.board.cores views (loaded_count (g.S.Shelf.state c.args.shelf.now).files c.in-Ok.job.board.network c.in-Ok.job.board.cores views c.in-Ok.ensures.ok.has_cores)
+          ∙ ap (λ (b : BoardFile). length b.cores) (sym c.in-Some.ensures.file);
+    }
+
+pub returns-in-Err-clause-says : goal.returns-in-Err-clause-says
+returns-in-Err-clause-says g c =
+    let P : Status → Type 0 = λ s. SaysProfile c.args.words.now (g.S.Shelf.state c.args.shelf.now) (g.S.Shelf.state c.load_job.new.shelf) (g.O.Sink.state c.args.out.now) (g.O.Sink.state c.args.out.now) s in
+    subst P (sym c.status_of_refusal.ensures) (refused c.in-Err.refusal c.in-Err.ensures.refused c.in-Err.ensures.keeps.files refl)
+
+pub returns-in-None-clause-says : goal.returns-in-None-clause-says
+returns-in-None-clause-says g c = no_memory c.in-Ok.ensures.quiet refl
+
+pub returns-in-Some-clause-says : goal.returns-in-Some-clause-says
+returns-in-Some-clause-says g c =
+    says_counted c.args.words.now (g.S.Shelf.state c.args.shelf.now) (g.S.Shelf.state c.load_job.new.shelf) (g.O.Sink.state c.args.out.now) (g.O.Sink.state c.count.new.out) c.count.result
+    c.in-Ok.job.board c.in-Some.ready.outputs (map (λ (core : AnyCore). (any_state core).view) c.in-Ok.job.cores.items) (record { links = c.in-Ok.job.inputs.links; uarts = c.in-Ok.job.inputs.uarts }) c.in-Some.ready.board
+    c.in-Ok.ensures.ok c.in-Some.ensures.file c.in-Some.ensures.start c.in-Some.ensures.none c.in-Ok.ensures.quiet c.count.ensures.plays
+
+pub returns-in-Some-clause-loads : goal.returns-in-Some-clause-loads
+returns-in-Some-clause-loads g c = prints_loads _ _ _ _ _ _ _ _ (ap (λ (s : ShelfState). s.faults.load_faults) c.in-Ok.ensures.quiet) c.count.ensures.plays.prints
+
+pub returns-in-Some-clause-writes : goal.returns-in-Some-clause-writes
+returns-in-Some-clause-writes g c = prints_writes _ _ _ _ _ _ c.count.ensures.plays.prints
+
+pub returns-in-Some-clause-shelf_writes : goal.returns-in-Some-clause-shelf_writes
+returns-in-Some-clause-shelf_writes g c = prints_stores _ _ _ _ _ _ _ _ (ap (λ (s : ShelfState). s.faults.write_faults) c.in-Ok.ensures.quiet) c.count.ensures.plays.prints
