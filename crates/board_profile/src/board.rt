@@ -1,6 +1,6 @@
 //! A board that counts what its cores' ticks are spent on.
 
-ghost use Rattle.std.specs.Prelude.{◌≡◌, ◌+◌, ◌<◌, ◌≤◌, ◌^◌, IfOk, IfSome, Some, length, map, replicate, slice_get};
+ghost use Rattle.std.specs.Prelude.{◌≡◌, ◌+◌, ◌<◌, ◌≤◌, ◌^◌, IfOk, IfSome, Some, drop, length, map, replicate, slice_get};
 ghost use Rattle.std.specs.Option.{option_to_list};
 ghost use Rattle.board_machine.specs.Cycles.{core_of_turn, events_of, turn_of};
 ghost use Rattle.board_machine.specs.declared.events.Event.TheVariants.{Devices, Host, Next, Tick as TickOf};
@@ -11,6 +11,7 @@ ghost use Rattle.exact_machine.specs.Profile.{nothing};
 ghost use Rattle.exact_machine.specs.Runs.{exact_end};
 ghost use Rattle.exact_machine.specs.Stepping.{CanCycle, CanRun};
 ghost use Rattle.quiet_cycles.specs.Quiet.{IsAmid};
+ghost use Rattle.probe_set.specs.Sets.{HaveRoom, all_told_each, items_of, named};
 
 use crate::profile::{Profile, spent_on};
 use crate::reason::reason;
@@ -88,6 +89,14 @@ impl<C: Core> ProfiledBoard<C> {
         ensures there { IfSome result (λ core. core < length self.now.world.cores) }
     {
         self.board.core_of_turn(k)
+    }
+
+    /// How many entries the journal has.
+    fn entry_count(&self) -> usize
+        ensures count { result ≡ length self.now.world.fabric.journal }
+        ensures clocks { length self.now.world.schedule.clocks ≡ length self.now.world.cores }
+    {
+        self.board.entry_count()
     }
 
     /// The end that is reached at the start of a cycle.
@@ -192,12 +201,15 @@ impl<C: Core> ProfiledBoard<C> {
     }
 
     /// Cycles up to the first of rest, the limit and a full journal, tested in this order at each cycle's start; each tick is
-    /// counted.
+    /// counted. The probes are told all entries in order; a wish to stop isn't heeded.
     pub fn run(&mut self, limit: u64, probes: &mut ProbeSet) -> RunEnd
         requires can { CanRun limit self.old.world }
-        ensures { ProfiledRun limit self.old self.new result }
+        requires room { HaveRoom self.old.world.fabric.spare (map (λ a. named a.name (state_of (a.probe.vtable, a.probe.value))) (items_of probes.old.probes)) }
+        ensures ran { ProfiledRun limit self.old self.new result }
+        ensures told { map (λ a. named a.name (state_of (a.probe.vtable, a.probe.value))) (items_of probes.new.probes)
+            ≡ all_told_each (drop (length self.old.world.fabric.journal) self.new.world.fabric.journal) (map (λ a. named a.name (state_of (a.probe.vtable, a.probe.value))) (items_of probes.old.probes)) }
     {
-        let told = self.board.journal().len();
+        let told = self.entry_count();
         let end = self.run_to(limit);
         let _ = self.board.tell_from(told, probes);
         end

@@ -8,3 +8,4 @@ mod FairRuns
 mod Demos
 mod RawSays
 pub mod ToolSays
+mod Probes

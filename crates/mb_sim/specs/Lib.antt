@@ -8,3 +8,4 @@ pub mod Profiled
 pub mod Program
 pub mod ToolStatus
 pub mod Tools
+pub mod Probes

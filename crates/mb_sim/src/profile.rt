@@ -10,6 +10,8 @@ ghost use Rattle.board_run.specs.Boards.{AreNew, IsBuildable};
 ghost use Rattle.mb_sim.specs.Profiled.{PlaysProfiled, PrintsProfiled, SaysProfile, line_of_profile, profile_text};
 ghost use Rattle.mb_sim.specs.Runs.{code_of, status_of};
 ghost use Rattle.mb_sim.specs.Top.{CountsLoads, CountsWrites};
+ghost use Rattle.mb_sim.specs.Probes.{AreYoung};
+ghost use Rattle.probe_set.specs.Sets.{HaveRoom, items_of, named};
 
 use crate::raw::output;
 use crate::run::{BoardEnds, Ready, RunWords, make_ready, status_of_refusal};
@@ -40,6 +42,7 @@ pub fn profile<S: Shelf, O: Sink>(
     out: &mut O,
     probes: &mut ProbeSet,
 ) -> Status
+    requires young { AreYoung (map (λ a. named a.name (state_of (a.probe.vtable, a.probe.value))) (items_of probes.old.probes)) }
     requires few { words.now.cycles ≤ 1_000_000_000_000 }
     ensures says { SaysProfile words.now (S.state shelf.old) (S.state shelf.new) (O.state out.old) (O.state out.new) result }
     ensures loads { CountsLoads (S.state shelf.old).faults.load_faults (S.state shelf.new).faults.load_faults result }
@@ -77,6 +80,7 @@ fn count<O: Sink>(
     out: &mut O,
     probes: &mut ProbeSet,
 ) -> Status
+    requires room { HaveRoom ready.board.world.fabric.spare (map (λ a. named a.name (state_of (a.probe.vtable, a.probe.value))) (items_of probes.old.probes)) }
     requires can { CanRun cycles ready.board.world }
     requires count { length ready.board.world.cores ≡ length ready.outputs.cores }
     ensures plays { PlaysProfiled cycles ready.outputs ready.board (O.state out.old) (O.state out.new) result }

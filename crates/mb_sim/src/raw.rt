@@ -1,8 +1,10 @@
 //! `raw`: a flat image on a board of one plain core, whose port 0 leads to the output.
-ghost use Rattle.std.specs.Prelude.{◌≡◌, ◌≤◌, ◌∷◌, [], IfErr, IfOk, IfSome, OnOk, codes, length};
+ghost use Rattle.std.specs.Prelude.{◌≡◌, ◌≤◌, ◌∷◌, [], IfErr, IfOk, IfSome, OnOk, codes, length, map};
 ghost use Rattle.board_run.specs.Runs.{IsRunOf};
 ghost use Rattle.mb_sim.specs.Raw.{memory_of, no_inputs, raw_board, raw_core, raw_link, raw_start, raw_view};
 ghost use Rattle.mb_sim.specs.Top.{CountsLoads, CountsWrites, HasRunTo, Refuses, Says};
+ghost use Rattle.mb_sim.specs.Probes.{AreYoung};
+ghost use Rattle.probe_set.specs.Sets.{items_of, named};
 
 use crate::print::print_items;
 use crate::runs::status_of;
@@ -41,6 +43,7 @@ pub fn raw<S: Shelf, O: Sink>(
     out: &mut O,
     probes: &mut ProbeSet,
 ) -> Status
+    requires young { AreYoung (map (λ a. named a.name (state_of (a.probe.vtable, a.probe.value))) (items_of probes.old.probes)) }
     requires few { cycles ≤ 1_000_000_000_000 }
     ensures says { Says (record { file = file.now; cycles = cycles }) (S.state shelf.old) (S.state shelf.new) (O.state out.old) (O.state out.new) result }
     ensures loads { CountsLoads (S.state shelf.old).faults.load_faults (S.state shelf.new).faults.load_faults result }
@@ -67,6 +70,7 @@ fn run_file<S: Shelf>(
     shelf: &mut S,
     probes: &mut ProbeSet,
 ) -> Result<Ran, Status>
+    requires young { AreYoung (map (λ a. named a.name (state_of (a.probe.vtable, a.probe.value))) (items_of probes.old.probes)) }
     requires few { cycles ≤ 1_000_000_000_000 }
     ensures ok { IfOk result (λ ran. HasRunTo (record { file = file.now; cycles = cycles }) (S.state shelf.old) ran.end ran.board) }
     ensures refused { IfErr result (λ status. Refuses (record { file = file.now; cycles = cycles }) (S.state shelf.old) (S.state shelf.new) status) }
@@ -100,6 +104,7 @@ fn run_image(
     cycles: u64,
     probes: &mut ProbeSet,
 ) -> Option<Ran>
+    requires young { AreYoung (map (λ a. named a.name (state_of (a.probe.vtable, a.probe.value))) (items_of probes.old.probes)) }
     requires fits { length image.now ≤ 65_536 }
     requires few { cycles ≤ 1_000_000_000_000 }
     ensures { IfSome result (λ ran. IsRunOf (raw_board file.now) (raw_view image.now ∷ []) no_inputs 1_048_576 cycles ran.board ran.end) }

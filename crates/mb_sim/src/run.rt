@@ -6,6 +6,8 @@ ghost use Rattle.exact_machine.specs.Stepping.{CanRun};
 ghost use Rattle.board_run.specs.Boards.{AreNew, IsBuildable};
 ghost use Rattle.mb_sim.specs.Board.{Plays, Prints, PutsOut, Says, status_of_output, status_of_refusal};
 ghost use Rattle.mb_sim.specs.Top.{CountsLoads, CountsWrites};
+ghost use Rattle.mb_sim.specs.Probes.{AreYoung};
+ghost use Rattle.probe_set.specs.Sets.{HaveRoom, items_of, named};
 
 use crate::raw::output;
 use crate::runs::status_of;
@@ -75,6 +77,7 @@ pub fn run<S: Shelf, O: Sink>(
     out: &mut O,
     probes: &mut ProbeSet,
 ) -> Status
+    requires young { AreYoung (map (λ a. named a.name (state_of (a.probe.vtable, a.probe.value))) (items_of probes.old.probes)) }
     requires few { words.now.cycles ≤ 1_000_000_000_000 }
     ensures says { Says words.now (S.state shelf.old) (S.state shelf.new) (O.state out.old) (O.state out.new) result }
     ensures loads { CountsLoads (S.state shelf.old).faults.load_faults (S.state shelf.new).faults.load_faults result }
@@ -132,6 +135,7 @@ fn play<S: Shelf, O: Sink>(
     out: &mut O,
     probes: &mut ProbeSet,
 ) -> Status
+    requires room { HaveRoom ready.board.fabric.spare (map (λ a. named a.name (state_of (a.probe.vtable, a.probe.value))) (items_of probes.old.probes)) }
     requires can { CanRun words.now.cycles ready.board }
     requires count { length ready.board.cores ≡ length ready.outputs.cores }
     ensures plays { Plays words.now ready.outputs ready.board (S.state shelf.old) (S.state shelf.new) (O.state out.old) (O.state out.new) result }

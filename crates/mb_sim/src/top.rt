@@ -6,6 +6,8 @@ ghost use Rattle.command_words.specs.declared.command.Command.TheVariants.{Asm a
 ghost use Rattle.mb_sim.specs.Lines.{told};
 ghost use Rattle.mb_sim.specs.ToolStatus.{AsmIsExact, DisIsExact};
 ghost use Rattle.mb_sim.specs.Top.{Answers, CountsLoads, CountsWrites, HasRun, IsAnswer, IsFair, IsFairRun, IsTold};
+ghost use Rattle.mb_sim.specs.Probes.{AreYoung};
+ghost use Rattle.probe_set.specs.Sets.{items_of, named};
 
 use crate::profile::profile;
 use crate::raw::raw;
@@ -30,6 +32,7 @@ pub fn mbsim<S: Shelf, C: Source, O: Sink, E: Sink>(
     err: &mut E,
     probes: &mut ProbeSet,
 ) -> Status
+    requires young { AreYoung (map (λ a. named a.name (state_of (a.probe.vtable, a.probe.value))) (items_of probes.old.probes)) }
     ensures usage { command_of (map (λ word. word.now) words.now) ≡ None → IsAnswer Status.Usage result }
     ensures says { Answers (command_of (map (λ word. word.now) words.now))
         (S.state shelf.old) (S.state shelf.new) (O.state out.old) (O.state out.new) result }
@@ -82,6 +85,7 @@ fn obey<S: Shelf, O: Sink>(
     out: &mut O,
     probes: &mut ProbeSet,
 ) -> Status
+    requires young { AreYoung (map (λ a. named a.name (state_of (a.probe.vtable, a.probe.value))) (items_of probes.old.probes)) }
     ensures usage { command_of (map (λ word. word.now) words.now) ≡ None → IsAnswer Status.Usage result }
     ensures says { Answers (command_of (map (λ word. word.now) words.now))
         (S.state shelf.old) (S.state shelf.new) (O.state out.old) (O.state out.new) result }
