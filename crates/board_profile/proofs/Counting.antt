@@ -194,6 +194,7 @@ ticked_core (Tick core ∷ es) = core
 ticked_core (Next ∷ es) = 0
 
 core_where : (b : Bool) (core other : ℕ) → Tick core ∷ [] ≡ ticks_where b other → core ≡ other
+unfolding ticked_core
 core_where true core other e = ap ticked_core e
 core_where false core other e = cc
 

@@ -6,10 +6,10 @@ use Rattle.board_profile.proofs.board.ProfiledBoard.new.Goals as goal
 
 pub invariant_of-result : goal.invariant_of-result
 invariant_of-result g c =
-    let zeros = ap (map counts_of) c.in_ok-profiles.ensures ∙ new_profiles c.cores-cores.result _ refl in
+    let zeros = ap (map counts_of) (c.in_ok-profiles.ensures.items_if_clones_equal (λ y e. e)) ∙ new_profiles c.cores-cores.result _ refl in
     subst (λ (ps : List Profile). Counts c.args.board.cores ps) (sym zeros) (new_counts c.args.board.cores c.cores-cores.result c.cores-cores.ensures)
 
 pub returns : goal.returns
 returns g c =
-    let zeros = ap (map counts_of) c.in_ok-profiles.ensures ∙ new_profiles c.cores-cores.result _ refl ∙ ap (λ (n : ℕ). replicate n nothing) c.cores-cores.ensures in
+    let zeros = ap (map counts_of) (c.in_ok-profiles.ensures.items_if_clones_equal (λ y e. e)) ∙ new_profiles c.cores-cores.result _ refl ∙ ap (λ (n : ℕ). replicate n nothing) c.cores-cores.ensures in
     λ i. record { world = c.args.board; profiles = zeros i }

@@ -6,17 +6,17 @@ use Rattle.board_profile.proofs.Counting.{cycle_may, cycle_next, none_cycled, on
 use Rattle.board_profile.proofs.board.ProfiledBoard.run_to.Goals as goal
 
 pub loop-number-init : goal.loop-number-init
-loop-number-init g c = record { cycled = none_cycled c.args.limit c.args.self.now c.requires.can; number = c.number-number-begin.ensures }
+loop-number-init g c = record { cycled = none_cycled c.args.limit c.args.self.now c.requires.can; number = c.number-number.ensures }
 
 pub returns-in-Some : goal.returns-in-Some
 returns-in-Some g c = run_ended c.args.limit c.args.self.now c.loop-number.self c.in-Some.end c.loop-number.invariant.cycled (sym c.in-Some.ensures)
 
 pub cycle-requires : goal.cycle-requires
-cycle-requires g c = record { can = cycle_may c.args.limit c.args.self.now c.loop-number.self c.loop-number.invariant.cycled (sym c.in-default.ensures) }
+cycle-requires g c = record { can = cycle_may c.args.limit c.args.self.now c.loop-number.self c.loop-number.invariant.cycled (sym c.in_default.ensures) }
 
 pub loop-number-preserved : goal.loop-number-preserved
 loop-number-preserved g c = record {
-  cycled = one_cycled c.args.limit c.args.self.now c.loop-number.self c.cycle.new.self c.loop-number.invariant.cycled (sym c.in-default.ensures) c.cycle.ensures;
+  cycled = one_cycled c.args.limit c.args.self.now c.loop-number.self c.cycle.new.self c.loop-number.invariant.cycled (sym c.in_default.ensures) c.cycle.ensures;
   number = ap (λ n. n + 1) c.loop-number.invariant.number ∙ sym (cycle_next c.loop-number.self c.cycle.new.self c.cycle.ensures);
 }
 

@@ -1,4 +1,4 @@
-use Rattle.std.proofs.Common.{◌≡◌, ◌<◌, Some, length, refl, ap, sym, ◌∙◌, arith, slice_get}
+use Rattle.std.proofs.Common.{◌≡◌, ◌<◌, Some, length, map, refl, ap, sym, ◌∙◌, arith, slice_get, slice_set}
 use Rattle.std.proofs.lemmas.List.{length-map}
 use Rattle.std.proofs.lemmas.Option.{slice_get_read}
 use Rattle.board_run.specs.Boards.{core_of}
@@ -38,5 +38,5 @@ returns g c =
     let s : ExactCore = core_of (g.C.Core.state c.core.result.now) in
     let ticked = ticked_by c.self.inside.board c.tick-answer.new.self c.args.core s c.tick-answer.result c.reason-reason.result c.spent_on-spent.result c.index_mut.result.now c.count.new.self
     c.tick-answer.ensures.step c.tick-answer.ensures.answer c.core.ensures c.reason-reason.ensures c.spent_on-spent.ensures c.count.ensures in
-    profiled_is c.self.inside.board c.tick-answer.new.self _ _ (Tick c.args.core) ticked.step (ticked_profiles c.self.inside.board c.tick-answer.new.self c.args.core c.index_mut.result.now c.count.new.self items ticked at)
+    profiled_is c.self.inside.board c.tick-answer.new.self (map counts_of items) (map counts_of (slice_set items c.args.core c.count.new.self)) (Tick c.args.core) ticked.step (ticked_profiles c.self.inside.board c.tick-answer.new.self c.args.core c.index_mut.result.now c.count.new.self items ticked at)
     ∙ ap (λ w. profiled_step w (Tick c.args.core)) c.self.view_is
