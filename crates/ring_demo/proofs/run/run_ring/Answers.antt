@@ -6,8 +6,8 @@ use Rattle.ring_demo.specs.Programs.{no_inputs, ring_views}
 use Rattle.ring_demo.specs.Ring.{ring_board}
 use Rattle.ring_demo.proofs.run.run_ring.Goals as goal
 
-pub run-end-requires : goal.run-end-requires
-run-end-requires c = record { can = can_run (ring_board c.args.turn c.args.number) (ring_views c.args.number) no_inputs 1_048_576 10_000_000 c.in_ok-board.board c.in_ok-board.ensures (omega arith) }
+pub run-end-requires-clause-can : goal.run-end-requires-clause-can
+run-end-requires-clause-can c = can_run (ring_board c.args.turn c.args.number) (ring_views c.args.number) no_inputs 1_048_576 10_000_000 c.in_ok-board.board c.in_ok-board.ensures (omega arith)
 
 pub returns : goal.returns
 returns c =
