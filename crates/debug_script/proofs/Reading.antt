@@ -1,12 +1,11 @@
 -- Lines, one after the other.
 use Rattle.std.proofs.Common.{◌≡◌, ℕ, ◌+◌, ◌≤◌, ◌==◌, true, false, if◌then◌else◌, arith, List, [], ◌∷◌, ◌++◌, length, Option, Some, None, refl, sym, ap, ◌∙◌, append_assoc, append-nil}
 use Rattle.std.specs.Prelude.{Result, Ok, Err}
-use Rattle.std.specs.Result.{result_map}
 use Rattle.debug_script.proofs.Splits.{parts_cut}
 use Rattle.debug_script.specs.Commands.{after}
 use Rattle.debug_script.specs.declared.command.Command.TheVariants.{Break, Detach}
 use Rattle.debug_script.specs.Parts.{after_part, first_part, parts, parts_after}
-use Rattle.debug_script.specs.Scripts.{line_read, line_then, lines_read, noted, refusal, with_first}
+use Rattle.debug_script.specs.Scripts.{line_read, line_then, lines_read, noted, refusal, result_map, with_first}
 use Rattle.debug_script.specs.declared.command.Command.{Command}
 use Rattle.debug_script.specs.declared.fault.ScriptFault.{ScriptFault}
 use Rattle.debug_script.specs.declared.fault.ScriptRule.{ScriptRule}
