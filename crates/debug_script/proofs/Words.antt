@@ -1,11 +1,28 @@
 -- The words of a line, from the first on.
-use Rattle.std.proofs.Common.{◌≡◌, ℕ, List, [], ◌∷◌, Option, Some, None, option_map, sym, ap, ◌∙◌}
+use Rattle.std.proofs.Common.{◌≡◌, ℕ, ◌<◌, List, [], ◌∷◌, length, arith, Option, Some, None, option_map, sym, ap, ◌∙◌}
 use Rattle.std.specs.Prelude.{Result, Err}
 use Rattle.debug_script.proofs.Splits.{parts_cut}
-use Rattle.debug_script.specs.Commands.{Three, Two, alone, one, three, two}
+use Rattle.debug_script.specs.Commands.{Two, alone, by_verb, one, three, two, verb_of}
 use Rattle.debug_script.specs.Parts.{after_part, first_part, parts_after}
+use Rattle.debug_script.specs.Scripts.{by_words, line_read, result_map}
 use Rattle.debug_script.specs.declared.command.Command.{Command}
+use Rattle.debug_script.specs.declared.command.Verb.{Verb}
+use Rattle.debug_script.specs.declared.fault.ScriptRule.{ScriptRule}
+use Rattle.debug_script.specs.declared.names.ScriptNames.{ScriptNames}
+use Rattle.debug_script.specs.declared.progress.Progress.{Progress}
 use Rattle.debug_script.specs.declared.fault.ScriptRule.TheVariants.{WrongWordCount}
+
+-- the meaning of a line that has bytes, from its first word and what stands behind
+pub line_words : (names : ScriptNames) (p : Progress) (line first : List ℕ) (words : Option (List ℕ)) (verb : Option Verb) (r : Result Command ScriptRule) → 0 < length line → first ≡ first_part 32 line → words ≡ after_part 32 line → verb ≡ verb_of first → r ≡ by_verb names p (parts_after 32 words) verb → result_map Some r ≡ line_read names p line
+unfolding line_read
+line_words names p [] first words verb r some f a v is = absurd (omega (arith, some))
+line_words names p (b ∷ line) first words verb r some f a v is =
+    let cut = parts_cut 32 (b ∷ line) in
+    ap (result_map Some)
+    (is ∙ ap (by_verb names p (parts_after 32 words)) v
+    ∙ ap (λ w. by_verb names p (parts_after 32 w) (verb_of first)) a
+    ∙ ap (λ w. by_verb names p (parts_after 32 (after_part 32 (b ∷ line))) (verb_of w)) f
+    ∙ sym (ap (by_words names p) cut))
 
 pub alone_refused : (command : Command) (o : Option (List ℕ)) (text : List ℕ) → o ≡ Some text → Err WrongWordCount ≡ alone command (parts_after 32 o)
 alone_refused command o text is = sym (ap (λ x. alone command (parts_after 32 x)) is ∙ ap (alone command) (parts_cut 32 text))

@@ -1,7 +1,7 @@
 -- A script: its commands in order, or its first line that is refused with the least rule that it breaks.
 use Rattle.std.specs.Prelude.{◌≡◌, ℕ, ◌+◌, List, [], ◌∷◌, Option, Some, None, Result, Ok, Err}
 use Rattle.debug_script.specs.Commands.{Word, after, by_verb, verb_of}
-use Rattle.debug_script.specs.Parts.{after_part, first_part, parts, parts_after}
+use Rattle.debug_script.specs.Parts.{parts}
 use Rattle.debug_script.specs.declared.command.Command.{Command}
 use Rattle.debug_script.specs.declared.fault.ScriptFault.{ScriptFault}
 use Rattle.debug_script.specs.declared.fault.ScriptFault.TheVariants.{Refused, NoMemory}

@@ -210,6 +210,8 @@ pub fn read_line(
         return Ok(None);
     }
     let (word, words) = cut(b' ', line);
-    let command = by_verb(names, progress, words, Verb::from_word(word))?;
-    Ok(Some(command))
+    match by_verb(names, progress, words, Verb::from_word(word)) {
+        Ok(command) => Ok(Some(command)),
+        Err(rule) => Err(rule),
+    }
 }
