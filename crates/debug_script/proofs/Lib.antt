@@ -1,3 +1,5 @@
+pub mod Finding
 pub mod Numerals
 pub mod Reading
 pub mod Splits
+pub mod Words

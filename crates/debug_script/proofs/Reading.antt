@@ -1,12 +1,11 @@
 -- Lines, one after the other.
-use Rattle.std.proofs.Common.{◌≡◌, ℕ, ◌+◌, ◌≤◌, ◌==◌, true, false, if◌then◌else◌, arith, List, [], ◌∷◌, ◌++◌, length, Option, Some, None, refl, sym, ap, ◌∙◌, append_assoc, append-nil}
+use Rattle.std.proofs.Common.{◌≡◌, ℕ, ◌+◌, ◌≤◌, ◌<◌, ◌==◌, true, false, if◌then◌else◌, arith, List, [], ◌∷◌, ◌++◌, length, Option, Some, None, refl, sym, ap, ◌∙◌, append_assoc, append-nil}
 use Rattle.std.specs.Prelude.{Result, Ok, Err}
-use Rattle.std.specs.Result.{result_map}
 use Rattle.debug_script.proofs.Splits.{parts_cut}
 use Rattle.debug_script.specs.Commands.{after}
 use Rattle.debug_script.specs.declared.command.Command.TheVariants.{Break, Detach}
-use Rattle.debug_script.specs.Parts.{after_part, first_part, parts, parts_after}
-use Rattle.debug_script.specs.Scripts.{line_read, line_then, lines_read, noted, refusal, with_first}
+use Rattle.debug_script.specs.Parts.{after_part, first_part, parts_after}
+use Rattle.debug_script.specs.Scripts.{line_read, line_then, lines_read, noted, refusal, result_map, with_first}
 use Rattle.debug_script.specs.declared.command.Command.{Command}
 use Rattle.debug_script.specs.declared.fault.ScriptFault.{ScriptFault}
 use Rattle.debug_script.specs.declared.fault.ScriptRule.{ScriptRule}
@@ -27,12 +26,12 @@ joined done None (Err e) = refl
 joined done (Some c) (Ok cs) = ap Ok (sym (append_assoc done (c ∷ []) cs))
 joined done (Some c) (Err e) = refl
 
-module _ (names : ScriptNames) (all : Result (List Command) ScriptFault) (done : List Command) (p : Progress) (number : ℕ) (left : List ℕ) where
-  by_first : all ≡ result_map (λ cs. done ++ cs) (lines_read names p number (parts 10 left)) → all ≡ result_map (λ cs. done ++ cs) (line_then number (line_read names p (first_part 10 left)) (λ command. lines_read names (noted command p) (number + 1) (parts_after 10 (after_part 10 left))))
-  by_first so_far = so_far ∙ ap (λ lines. result_map (λ cs. done ++ cs) (lines_read names p number lines)) (parts_cut 10 left)
+module _ (names : ScriptNames) (all : Result (List Command) ScriptFault) (done : List Command) (p : Progress) (number : ℕ) (o : Option (List ℕ)) (left : List ℕ) (is_left : o ≡ Some left) where
+  by_first : all ≡ result_map (λ cs. done ++ cs) (lines_read names p number (parts_after 10 o)) → all ≡ result_map (λ cs. done ++ cs) (line_then number (line_read names p (first_part 10 left)) (λ command. lines_read names (noted command p) (number + 1) (parts_after 10 (after_part 10 left))))
+  by_first so_far = so_far ∙ ap (λ x. result_map (λ cs. done ++ cs) (lines_read names p number (parts_after 10 x))) is_left ∙ ap (λ lines. result_map (λ cs. done ++ cs) (lines_read names p number lines)) (parts_cut 10 left)
 
   -- one more line is read
-  pub reads_more : (line : List ℕ) (rest : Option (List ℕ)) (command : Option Command) (new : List Command) (q : Progress) → all ≡ result_map (λ cs. done ++ cs) (lines_read names p number (parts 10 left)) → line ≡ first_part 10 left → rest ≡ after_part 10 left → Ok command ≡ line_read names p line → new ≡ done ++ with_first command [] → q ≡ noted command p → all ≡ result_map (λ cs. new ++ cs) (lines_read names q (number + 1) (parts_after 10 rest))
+  pub reads_more : (line : List ℕ) (rest : Option (List ℕ)) (command : Option Command) (new : List Command) (q : Progress) → all ≡ result_map (λ cs. done ++ cs) (lines_read names p number (parts_after 10 o)) → line ≡ first_part 10 left → rest ≡ after_part 10 left → Ok command ≡ line_read names p line → new ≡ done ++ with_first command [] → q ≡ noted command p → all ≡ result_map (λ cs. new ++ cs) (lines_read names q (number + 1) (parts_after 10 rest))
   reads_more line rest command new q so_far first after is grown moved =
       by_first so_far
       ∙ ap (λ r. result_map (λ cs. done ++ cs) (line_then number r (λ command. lines_read names (noted command p) (number + 1) (parts_after 10 (after_part 10 left))))) (sym (is ∙ ap (line_read names p) first))
@@ -42,7 +41,7 @@ module _ (names : ScriptNames) (all : Result (List Command) ScriptFault) (done :
       ∙ ap (λ t. result_map (λ cs. new ++ cs) (lines_read names q (number + 1) (parts_after 10 t))) (sym after)
 
   -- the line is refused
-  pub reads_refused : (line : List ℕ) (rule : ScriptRule) → all ≡ result_map (λ cs. done ++ cs) (lines_read names p number (parts 10 left)) → line ≡ first_part 10 left → Err rule ≡ line_read names p line → all ≡ Err (refusal rule number)
+  pub reads_refused : (line : List ℕ) (rule : ScriptRule) → all ≡ result_map (λ cs. done ++ cs) (lines_read names p number (parts_after 10 o)) → line ≡ first_part 10 left → Err rule ≡ line_read names p line → all ≡ Err (refusal rule number)
   reads_refused line rule so_far first is =
       by_first so_far
       ∙ ap (λ r. result_map (λ cs. done ++ cs) (line_then number r (λ command. lines_read names (noted command p) (number + 1) (parts_after 10 (after_part 10 left))))) (sym (is ∙ ap (line_read names p) first))
@@ -63,6 +62,9 @@ after_is_shorter separator (b ∷ text) =
       | true ↦ omega arith
       | false ↦ omega (arith, after_is_shorter separator text)
     ]
+
+pub shorter : (o rest : Option (List ℕ)) (left : List ℕ) → o ≡ Some left → rest ≡ after_part 10 left → left_len rest < left_len o
+shorter o rest left is_left after = omega (arith, ap left_len is_left, ap left_len after, after_is_shorter 10 left)
 
 few_with : (command : Command) (p : Progress) → (after command p).breaks ≤ p.breaks + 1
 few_with (Break core addr) p = omega arith

@@ -1,8 +1,7 @@
 -- A script: its commands in order, or its first line that is refused with the least rule that it breaks.
 use Rattle.std.specs.Prelude.{◌≡◌, ℕ, ◌+◌, List, [], ◌∷◌, Option, Some, None, Result, Ok, Err}
-use Rattle.std.specs.Result.{result_map}
 use Rattle.debug_script.specs.Commands.{Word, after, by_verb, verb_of}
-use Rattle.debug_script.specs.Parts.{after_part, first_part, parts, parts_after}
+use Rattle.debug_script.specs.Parts.{parts}
 use Rattle.debug_script.specs.declared.command.Command.{Command}
 use Rattle.debug_script.specs.declared.fault.ScriptFault.{ScriptFault}
 use Rattle.debug_script.specs.declared.fault.ScriptFault.TheVariants.{Refused, NoMemory}
@@ -10,6 +9,11 @@ use Rattle.debug_script.specs.declared.fault.ScriptRule.{ScriptRule}
 use Rattle.debug_script.specs.declared.fault.ScriptRule.TheVariants as broken
 use Rattle.debug_script.specs.declared.names.ScriptNames.{ScriptNames}
 use Rattle.debug_script.specs.declared.progress.Progress.{Progress}
+
+-- what an `Ok` has, mapped
+abbrev pub result_map : {T U E : Type 0} → (T → U) → Result T E → Result U E
+result_map f (Ok x) = Ok (f x)
+result_map f (Err e) = Err e
 
 -- the number of each fault
 abbrev pub code_of : ScriptRule → ℕ

@@ -1,6 +1,7 @@
 //! What is wrong with a script.
 ghost use Rattle.std.specs.Prelude.{◌≡◌};
 ghost use Rattle.debug_script.specs.Scripts.{code_of, refusal};
+ghost use Rattle.debug_script.specs.declared.fault.ScriptFault.TheVariants.{NoMemory as NoMemoryToRead};
 
 use host_io::NoMemory;
 
@@ -57,6 +58,8 @@ pub enum ScriptFault {
 }
 
 impl From<NoMemory> for ScriptFault {
+    ghost from_gives = { λ _ fault. fault ≡ NoMemoryToRead };
+
     fn from(_error: NoMemory) -> Self {
         ScriptFault::NoMemory
     }

@@ -1,9 +1,9 @@
 //! A line of a script.
 ghost use Rattle.std.specs.Prelude.{◌≡◌, None, Ok, Some, option_copied};
-ghost use Rattle.std.specs.Result.{result_map};
+ghost use Rattle.std.specs.Str.{bytes_eq};
 ghost use Rattle.debug_script.specs.Commands.{Three, Two, address, alone, break_with, by_verb, core_named, detach_with, mem_with, one, probe_with, regs_with, run_with, step_with, still_attached, three, two, value_named, verb_of};
 ghost use Rattle.debug_script.specs.Parts.{parts_after};
-ghost use Rattle.debug_script.specs.Scripts.{line_read};
+ghost use Rattle.debug_script.specs.Scripts.{line_read, result_map};
 
 use crate::command::{Command, Verb};
 use crate::fault::ScriptRule;
@@ -34,12 +34,18 @@ fn core_named(names: &ScriptNames, word: &[u8]) -> Option<usize>
         .position(|name| name.as_bytes() == word)
 }
 
+fn has_name(symbol: &Symbol, word: &[u8]) -> bool
+    ensures { result ≡ bytes_eq symbol.now.name word.now }
+{
+    symbol.name.as_slice() == word
+}
+
 /// The value of the first symbol of a name.
 fn value_named(word: &[u8], symbols: &[Symbol]) -> Option<u32>
     ensures { result ≡ value_named word.now symbols.now }
 {
     for symbol in symbols {
-        if symbol.name.as_slice() == word {
+        if has_name(symbol, word) {
             return Some(symbol.value);
         }
     }
@@ -60,16 +66,29 @@ fn address(names: &ScriptNames, core: usize, word: &[u8]) -> Option<u32>
     value_named(word, names.symbols.get(core)?.as_slice())
 }
 
-/// The name of a probe that is still attached.
-fn still_attached(attached: &Names, word: &[u8]) -> Option<Name>
-    ensures { result ≡ still_attached attached.now word.now }
+fn is_word(name: &Name, word: &[u8]) -> bool
+    ensures { result ≡ bytes_eq name.now word.now }
 {
-    for name in attached.as_slice() {
-        if name.as_bytes() == word {
+    name.as_bytes() == word
+}
+
+/// The first name of a list that is this word.
+fn name_among(names: &[Name], word: &[u8]) -> Option<Name>
+    ensures { result ≡ still_attached names.now word.now }
+{
+    for name in names {
+        if is_word(name, word) {
             return Some(name.copied());
         }
     }
     None
+}
+
+/// The name of a probe that is still attached.
+fn still_attached(attached: &Names, word: &[u8]) -> Option<Name>
+    ensures { result ≡ still_attached attached.now word.now }
+{
+    name_among(attached.as_slice(), word)
 }
 
 fn break_command(
@@ -191,6 +210,8 @@ pub fn read_line(
         return Ok(None);
     }
     let (word, words) = cut(b' ', line);
-    let command = by_verb(names, progress, words, Verb::from_word(word))?;
-    Ok(Some(command))
+    match by_verb(names, progress, words, Verb::from_word(word)) {
+        Ok(command) => Ok(Some(command)),
+        Err(rule) => Err(rule),
+    }
 }

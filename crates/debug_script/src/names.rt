@@ -23,6 +23,17 @@ impl Model for Names {
     ghost view = { λ n. n.names.items };
 }
 
+/// The same names once more.
+fn copied_names(alloc: Global, names: &[Name]) -> Result<Vec<Name>, NoMemory>
+    ensures { IfOk result (λ copies. copies.items ≡ names.now) }
+{
+    let mut copies = Vec::new(alloc);
+    for name in names {
+        copies.push(name.copied())?;
+    }
+    Ok(copies)
+}
+
 impl Names {
     /// These names.
     pub fn from_vec(names: Vec<Name>) -> Self
@@ -57,11 +68,9 @@ impl Names {
     pub fn copied(&self, alloc: Global) -> Result<Names, NoMemory>
         ensures { IfOk result (λ names. names ≡ self.now) }
     {
-        let mut names = Vec::new(alloc);
-        for name in &self.names {
-            names.push(name.copied())?;
-        }
-        Ok(Names { names })
+        Ok(Names {
+            names: copied_names(alloc, self.names.as_slice())?,
+        })
     }
 
     /// Takes out a name.

@@ -74,20 +74,31 @@ const MADE: [(ProbeKind, u64, u64, usize, [bool; 5]); 4] = [
 #[test]
 fn each_kind_folds_its_entries(rt: HostRuntime) -> Result<(), Fail> {
     for (kind, count, cores, kept, asks) in MADE {
-        let mut probes = ProbeSet::new();
-        let probe = Box::new(rt.alloc(), Plain::new(kind))?;
-        assert!(rt; probes.attach(rt.alloc(), name("p")?, probe).is_ok());
+        let mut probe = Plain::new(kind);
         for k in 0..5 {
             let (core, what) = TOLD[k];
-            assert_eq!(rt; probes.tell(&entry(k as u64, core, what)), asks[k]);
+            if probe.state.count < 100 {
+                assert_eq!(rt; probe.on(&entry(k as u64, core, what)), asks[k]);
+            }
         }
-        let state = probes.state(&name("p")?).ok_or("a state")?;
+        let state = probe.state();
         assert_eq!(rt;
             (state.kind, state.count, state.cores),
             (kind, count, cores)
         );
         assert_eq!(rt; state.last.len(), kept);
     }
+    Ok(())
+}
+
+#[test]
+fn a_set_tells_its_probe(rt: HostRuntime) -> Result<(), Fail> {
+    let mut probes = ProbeSet::new();
+    let probe = Box::new(rt.alloc(), Plain::new(ProbeKind::Watch))?;
+    assert!(rt; probes.attach(rt.alloc(), name("p")?, probe).is_ok());
+    assert!(rt; probes.tell(&entry(3, 1, What::Raised { esr: 2 })));
+    let state = probes.state(&name("p")?).ok_or("a state")?;
+    assert_eq!(rt; (state.kind, state.count), (ProbeKind::Watch, 1));
     Ok(())
 }
 
