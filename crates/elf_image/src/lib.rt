@@ -39,6 +39,8 @@ pub use writing::{files_are_as_long_as_their_parts, write_elf, written_files_rea
 #[cfg(test)]
 mod tests;
 #[cfg(test)]
+mod tests_of_faults;
+#[cfg(test)]
 mod tests_of_symbols;
 #[cfg(test)]
 mod tests_of_writing;
