@@ -1,5 +1,5 @@
 //! `profile`: a board with its images and input files, to its report and what the ticks of its cores were spent on.
-ghost use Rattle.std.specs.Prelude.{◌≡◌, ◌≤◌, IfSome, flat_map, length, map, replicate};
+ghost use Rattle.std.specs.Prelude.{◌≡◌, ◌<◌, ◌≤◌, ◌^◌, IfSome, flat_map, length, map, replicate};
 ghost use Rattle.std.specs.List.{enumerate_from};
 ghost use Rattle.any_core.specs.States.{any_state};
 ghost use Rattle.exact_machine.specs.Profile.{nothing};
@@ -64,6 +64,7 @@ fn make_counting(alloc: Global, job: Job, entries: u32) -> Option<ReadyToCount>
     requires new { AreNew job.board.cores (map any_state job.cores.items) }
     requires buildable { IsBuildable job.board }
     ensures file { IfSome result (λ r. r.outputs ≡ job.board) }
+    ensures room { IfSome result (λ r. r.board.world.fabric.spare < 2 ^ 32) }
     ensures start { IfSome result (λ r. r.board.world ≡ exact_start job.board (map (λ core. (any_state core).view) job.cores.items) (record { links = job.inputs.links; uarts = job.inputs.uarts }) entries) }
     ensures none { IfSome result (λ r. r.board.profiles ≡ replicate (length r.board.world.cores) nothing) }
 {

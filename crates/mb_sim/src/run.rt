@@ -1,5 +1,5 @@
 //! `run`: a board with its images and input files, to its output files, journal and report.
-ghost use Rattle.std.specs.Prelude.{◌≡◌, ◌≤◌, IfSome, Ok, codes, length, map, slice_get};
+ghost use Rattle.std.specs.Prelude.{◌≡◌, ◌<◌, ◌≤◌, ◌^◌, IfSome, Ok, codes, length, map, slice_get};
 ghost use Rattle.any_core.specs.States.{any_state};
 ghost use Rattle.exact_machine.specs.Runs.{exact_start};
 ghost use Rattle.exact_machine.specs.Stepping.{CanRun};
@@ -114,6 +114,7 @@ pub(crate) fn make_ready(alloc: Global, job: Job, entries: u32) -> Option<Ready>
     requires new { AreNew job.board.cores (map any_state job.cores.items) }
     requires buildable { IsBuildable job.board }
     ensures file { IfSome result (λ r. r.outputs ≡ job.board) }
+    ensures room { IfSome result (λ r. r.board.fabric.spare < 2 ^ 32) }
     ensures start { IfSome result (λ r. r.board ≡ exact_start job.board (map (λ core. (any_state core).view) job.cores.items) (record { links = job.inputs.links; uarts = job.inputs.uarts }) entries) }
 {
     let Job {

@@ -11,7 +11,6 @@ use Rattle.board_file.specs.declared.board.BoardFile.{BoardFile}
 use Rattle.ring_demo.proofs.Starting.{can_run}
 use Rattle.mb_sim.proofs.Boards.{loaded_count, puts_loads, puts_stores, puts_writes, says_played}
 use Rattle.mb_sim.proofs.Probes.{have_room}
-use Rattle.probe_set.specs.Sets.{HaveRoom, Named}
 use Rattle.mb_sim.proofs.run.run.Goals as goal
 
 pub play-requires : goal.play-requires
@@ -23,8 +22,7 @@ play-requires g c =
       count = ap (λ (x : ExactWorld). length x.cores) c.in-Some.ensures.start
           ∙ fresh_count c.in-Ok.job.board.cores views (loaded_count (g.S.Shelf.state c.args.shelf.now).files c.in-Ok.job.board.network c.in-Ok.job.board.cores views c.in-Ok.ensures.ok.has_cores)
           ∙ ap (λ (b : BoardFile). length b.cores) (sym c.in-Some.ensures.file);
-      room = let P : List Named → ExactWorld → Type 0 = λ ns x. HaveRoom x.fabric.spare ns in
-          subst (P _) (sym c.in-Some.ensures.start) (have_room c.args.words.now.entries _ (omega arith) c.requires.young);
+      room = have_room c.in-Some.ready.board.fabric.spare _ (omega (arith, c.in-Some.ensures.room)) c.requires.young;
     }
 
 pub returns-in-Err-clause-says : goal.returns-in-Err-clause-says
