@@ -200,6 +200,16 @@ impl<C: Core> ProfiledBoard<C> {
         }
     }
 
+    /// Tells the probes the entries of the journal from this one on, in order.
+    fn tell_from(&self, from: usize, probes: &mut ProbeSet)
+        requires there { from ≤ length self.now.world.fabric.journal }
+        requires room { HaveRoom (length (drop from self.now.world.fabric.journal)) (map (λ a. named a.name (state_of (a.probe.vtable, a.probe.value))) (items_of probes.old.probes)) }
+        ensures { map (λ a. named a.name (state_of (a.probe.vtable, a.probe.value))) (items_of probes.new.probes)
+            ≡ all_told_each (drop from self.now.world.fabric.journal) (map (λ a. named a.name (state_of (a.probe.vtable, a.probe.value))) (items_of probes.old.probes)) }
+    {
+        let _ = self.board.tell_from(from, probes);
+    }
+
     /// Cycles up to the first of rest, the limit and a full journal, tested in this order at each cycle's start; each tick is
     /// counted. The probes are told all entries in order; a wish to stop isn't heeded.
     pub fn run(&mut self, limit: u64, probes: &mut ProbeSet) -> RunEnd
@@ -211,7 +221,7 @@ impl<C: Core> ProfiledBoard<C> {
     {
         let told = self.entry_count();
         let end = self.run_to(limit);
-        let _ = self.board.tell_from(told, probes);
+        self.tell_from(told, probes);
         end
     }
 }

@@ -102,9 +102,9 @@ all_added board last how old mid new text rows result is same before behind =
 
 pub report_cut : (board : BoardFile) (last : Profiled) (how : RunEnd) (old new : SinkState) (text : List ℕ) (fault : StoreFault) → text ≡ report_of board last.world how
     → Adds old new text (Err fault) → Adds old new (profile_text board last how) (Err fault)
-report_cut board last how old new text fault is refused =
+report_cut board last how old new text fault is cut =
     let P : List ℕ → Type 0 = λ t. Adds old new t (Err fault) in
-    adds_cut old new (report_of board last.world how) (profile_lines last.profiles board.cores) fault (subst P is refused)
+    adds_cut old new (report_of board last.world how) (profile_lines last.profiles board.cores) fault (subst P is cut)
 
 -- where no fault was counted
 

@@ -1,4 +1,4 @@
-use Rattle.std.proofs.Common.{Option, ap, sym, ◌∙◌, arith}
+use Rattle.std.proofs.Common.{Option, ap, length, sym, ◌∙◌, arith}
 use Rattle.std.proofs.lemmas.Result.{err_from_is_err_and}
 use Rattle.exact_machine.specs.Machine.{ExactWorld}
 use Rattle.exact_machine.specs.Profile.{Profile}
@@ -13,17 +13,17 @@ returns-in_err-write_all g c =
     rw (p.1, p.2)
     (line_refused (g.O.Sink.state c.args.out.now) (g.O.Sink.state c.loop-k.out) (g.O.Sink.state c.write_all.new.self)
     (line_of_profile c.args.board.now.profiles) c.args.rows.now c.loop-k.k c.index-rows-k.result c.as_bytes.result.now c.in_err-write_all.field-0.0
-    (omega (arith, c.loop-k-test.true, c.cores-k-end.ensures, c.requires)) c.index-rows-k.is
+    (omega (arith, c.loop-k-test.true, c.cores-k-end.ensures, c.requires, ap (λ (x : ExactWorld). length x.cores) c.board.ensures)) c.index-rows-k.is
     (c.as_bytes.ensures.bytes ∙ c.profile_line-line.ensures ∙ ap (λ (o : Option Profile). profile_line c.index-rows-k.result.name (or_nothing o)) (sym c.profile-profile.ensures)) c.loop-k.invariant c.in_err-write_all.ensures.answer)
 
 pub loop-k-preserved : goal.loop-k-preserved
 loop-k-preserved g c =
     line_added (g.O.Sink.state c.args.out.now) (g.O.Sink.state c.loop-k.out) (g.O.Sink.state c.write_all.new.self)
     (line_of_profile c.args.board.now.profiles) c.args.rows.now c.loop-k.k c.index-rows-k.result c.as_bytes.result.now
-    (omega (arith, c.loop-k-test.true, c.cores-k-end.ensures, c.requires)) c.index-rows-k.is
+    (omega (arith, c.loop-k-test.true, c.cores-k-end.ensures, c.requires, ap (λ (x : ExactWorld). length x.cores) c.board.ensures)) c.index-rows-k.is
     (c.as_bytes.ensures.bytes ∙ c.profile_line-line.ensures ∙ ap (λ (o : Option Profile). profile_line c.index-rows-k.result.name (or_nothing o)) (sym c.profile-profile.ensures)) c.loop-k.invariant c.in_ok-write_all.ensures.answer
 
 pub returns : goal.returns
 returns g c =
     all_lines (g.O.Sink.state c.args.out.now) (g.O.Sink.state c.loop-k.out) (line_of_profile c.args.board.now.profiles) c.args.rows.now c.loop-k.k
-    (omega (arith, c.loop-k-test.false, c.cores-k-end.ensures, c.requires)) c.loop-k.invariant
+    (omega (arith, c.loop-k-test.false, c.cores-k-end.ensures, c.requires, ap (λ (x : ExactWorld). length x.cores) c.board.ensures)) c.loop-k.invariant
