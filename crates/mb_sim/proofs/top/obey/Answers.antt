@@ -9,12 +9,12 @@ use Rattle.mb_sim.proofs.top.obey.Goals as goal
 pub raw-requires : goal.raw-requires
 raw-requires g c =
     let small = command_small (map (λ word. word.now) c.args.words.now) c.in-Ok-Raw.field-0 c.in-Ok-Raw.ensures in
-    record { few = (subst IsSmall c.in-Ok-Raw.field-0-is small).cycles }
+    record { young = c.requires.young; few = (subst IsSmall c.in-Ok-Raw.field-0-is small).cycles }
 
 pub run-requires : goal.run-requires
 run-requires g c =
     let small = command_small (map (λ word. word.now) c.args.words.now) c.in-Ok-Run.field-0 c.in-Ok-Run.ensures in
-    record { few = (subst IsSmall c.in-Ok-Run.field-0-is small).cycles }
+    record { young = c.requires.young; few = (subst IsSmall c.in-Ok-Run.field-0-is small).cycles }
 
 pub returns-in-Ok-Raw-clause-says : goal.returns-in-Ok-Raw-clause-says
 returns-in-Ok-Raw-clause-says g c =
@@ -53,7 +53,7 @@ returns-in-Ok-Demo-clause-shelf_writes g c = same_writes (g.S.Shelf.state c.args
 pub profile-requires : goal.profile-requires
 profile-requires g c =
     let small = command_small (map (λ word. word.now) c.args.words.now) c.in-Ok-Profile.field-0 c.in-Ok-Profile.ensures in
-    record { few = (subst IsSmall c.in-Ok-Profile.field-0-is small).cycles }
+    record { young = c.requires.young; few = (subst IsSmall c.in-Ok-Profile.field-0-is small).cycles }
 
 pub returns-in-Ok-Profile-clause-says : goal.returns-in-Ok-Profile-clause-says
 returns-in-Ok-Profile-clause-says g c =
