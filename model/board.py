@@ -348,7 +348,7 @@ def raw(image, limit=CYCLES, entries=ENTRIES):
 # the command line
 
 FILE_NAME = re.compile(r"[A-Za-z0-9_./][A-Za-z0-9_./-]{0,63}")
-OPTIONS = {"run": ("cycles", "journal", "write-journal"), "profile": ("cycles", "journal")}
+OPTIONS = {"run": ("cycles", "journal", "write-journal"), "profile": ("cycles", "journal"), "debug": ("cycles", "journal")}
 MOST = {"cycles": 1_000_000_000_000, "journal": 33_554_432}
 
 

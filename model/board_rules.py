@@ -3,7 +3,8 @@
 A fault is a code and a place, the path of a key cut to 64 bytes. All faults are gathered, and the least is the answer.
 """
 import re
-import tomllib
+
+import toml_reader
 
 NAME = re.compile(rb"[a-z0-9_]{1,24}")
 FILE = re.compile(r"[A-Za-z0-9_./][A-Za-z0-9_./-]{0,63}")
@@ -160,21 +161,11 @@ class Rules:
                         self.add(code, table, name)
 
 
-def has_long_number(value):
-    if isinstance(value, dict):
-        return any(has_long_number(one) for one in value.values())
-    if isinstance(value, list):
-        return any(has_long_number(one) for one in value)
-    return is_number(value) and not -2**63 <= value < 2**63
-
-
 def least_fault(data):
     """The code and the place of a board file's least fault, or None; and its tree."""
     try:
-        tree = tomllib.loads(data.removeprefix(b"\xef\xbb\xbf").decode())
-    except (tomllib.TOMLDecodeError, UnicodeDecodeError):
-        return (601, b""), None
-    if has_long_number(tree):
+        tree = toml_reader.read(data)
+    except toml_reader.Refused:
         return (601, b""), None
     rules = Rules(tree)
     for test in (rules.test_top, rules.test_rows, rules.test_links, rules.test_files, rules.test_devices, rules.test_network):

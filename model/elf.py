@@ -92,3 +92,36 @@ def read(data, memory):
     if entry % 4 or not any(begin <= entry < end for begin, end in ranges):
         raise Refused(712, entry)
     return Image(order, entry, [part for _, part in loaded])
+
+
+def section(data, mark, headers, index):
+    """Type, place, size, link and entry size of a section."""
+    kind, _, _, place, size, link, _, _, entry = struct.unpack_from(mark + "9I", data, headers + 40 * index + 4)
+    return kind, place, size, link, entry
+
+
+def symbols(data):
+    """Names and values of the symbol table, in its order; none where it isn't whole."""
+    if len(data) < 52 or data[:4] != b"\x7fELF" or data[4] != 1 or data[5] not in (1, 2):
+        return []
+    mark = ">" if data[5] == 2 else "<"
+    headers, = struct.unpack_from(mark + "I", data, 32)
+    header_size, count = struct.unpack_from(mark + "HH", data, 46)
+    if header_size != 40 or headers + 40 * count > len(data):
+        return []
+    sections = [section(data, mark, headers, k) for k in range(count)]
+    table = next((one for one in sections if one[0] == 2 and one[4] == 16), None)
+    if table is None or table[3] >= count or sections[table[3]][0] != 3:
+        return []
+    _, place, size, link, _ = table
+    _, begin, length, _, _ = sections[link]
+    if size % 16 or place + size > len(data) or begin + length > len(data):
+        return []
+    names, found = data[begin:begin + length], []
+    for at in range(place, place + size, 16):
+        name, value = struct.unpack_from(mark + "II", data, at)
+        end = names.find(b"\0", name)
+        if name >= length or end < 0:
+            return []
+        found.append((names[name:end], value))
+    return found

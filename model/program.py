@@ -1,6 +1,9 @@
 """The proved program, called as a user calls it, and how what it leaves differs from what the model says."""
+import os
 import pathlib
 import subprocess
+import tempfile
+import threading
 
 import board
 
@@ -20,16 +23,31 @@ class Program:
     def is_there(self):
         return self.path.is_file()
 
-    def call(self, folder, words):
+    def call(self, folder, words, given=os.devnull):
         """The outcome of a call in a folder, with every file that is new or changed."""
+        return self.measured(folder, words, 600, given)[0]
+
+    def measured(self, folder, words, most=60, given=os.devnull):
+        """The same, with the seconds of processor time and the bytes of memory that the call took; it is ended after so many seconds.
+        The standard input is the file `given`, by its path from the folder."""
         before = files_of(folder)
-        done = subprocess.run([str(self.path), *words], capture_output=True, cwd=folder)
+        with tempfile.TemporaryFile() as out, tempfile.TemporaryFile() as err, open(pathlib.Path(folder, given), "rb") as script:
+            started = subprocess.Popen([str(self.path), *words], stdin=script, stdout=out, stderr=err, cwd=folder)
+            timer = threading.Timer(most, started.kill)
+            timer.start()
+            _, status, used = os.wait4(started.pid, 0)
+            timer.cancel()
+            started.returncode = os.waitstatus_to_exitcode(status)
+            texts = []
+            for stream in (out, err):
+                stream.seek(0)
+                texts.append(stream.read().decode(errors="replace"))
         files = {name: data for name, data in files_of(folder).items() if before.get(name) != data}
-        return board.Outcome(done.returncode, done.stdout.decode(errors="replace"), done.stderr.decode(errors="replace"), files)
+        return board.Outcome(started.returncode, *texts, files), used.ru_utime + used.ru_stime, used.ru_maxrss * 1024
 
 
 def files_of(folder):
-    return {path.name: path.read_bytes() for path in pathlib.Path(folder).iterdir()}
+    return {path.name: path.read_bytes() for path in pathlib.Path(folder).iterdir() if path.is_file()}
 
 
 def difference(got, wanted):

@@ -12,16 +12,16 @@ use Rattle.op_table.specs.Table.{is_store}
 use Rattle.mb_decode.specs.Registers.{reads, reads_a, reads_b}
 use Rattle.isa_step.specs.declared.acts.Here.{Here}
 use Rattle.isa_step.specs.declared.acts.Operands.{Operands}
-use Rattle.isa_step.specs.declared.supplying.Given.{Given}
+use Rattle.isa_step.specs.declared.operands.Given.{Given}
 use Rattle.op_table.specs.declared.kinds.Kind.{Kind}
 use Rattle.op_table.specs.declared.kinds.Kind.TheVariants.{Add, Store}
 use Rattle.op_table.specs.declared.kinds.Second.{Second}
 use Rattle.op_table.specs.declared.kinds.Second.TheVariants.{Register, Immediate, Count}
-use Rattle.isa_step.specs.Deeds.{Want, Goes, Homes, stops}
+use Rattle.isa_step.specs.Effects.{Request, Goes, HaltLoop, stops}
 use Rattle.isa_step.specs.Due.{awake, due_by, due_with, reply, take_due}
 use Rattle.op_table.specs.Table.{kind_of, second_of}
 use Rattle.isa_step.specs.Shown.{Shown}
-use Rattle.isa_step.specs.Wants.{comes_home, deed_of, effect, given, illegal, is_banned, is_end, second_value, wants, wants_kind}
+use Rattle.isa_step.specs.Requests.{halt_loop, effect_of, request_of, given, illegal, is_banned, is_end, second_value, requested, requested_kind}
 use Rattle.op_table.specs.Kinds.{belongs_into_slot}
 use Rattle.act_laws.specs.Lateness.{here_is}
 use Rattle.act_laws.specs.Reading.{AgreesOn, ReadsAreNamed}
@@ -35,15 +35,15 @@ given_d g x = record g { d = x }
 
 -- only a store looks at rD
 
-deed_same : (kind : Kind) (g : Given) (x : ℕ) (a : Arch) → deed_of kind (given_d g x) a ≡ deed_of kind g a
-unfolding deed_of given_d
-deed_same (Add with_carry keep) g x a = refl
-deed_same _ g x a = refl
+effect_same : (kind : Kind) (g : Given) (x : ℕ) (a : Arch) → effect_of kind (given_d g x) a ≡ effect_of kind g a
+unfolding effect_of given_d
+effect_same (Add with_carry keep) g x a = refl
+effect_same _ g x a = refl
 
-effect_same : (kind : Kind) (g : Given) (x : ℕ) (a : Arch) (m : List ℕ) → stores kind ≡ false → effect kind (given_d g x) a m ≡ effect kind g a m
-unfolding effect deed_of given_d
-effect_same (Store size) g x a m h = cc
-effect_same _ g x a m h = refl
+request_of_same : (kind : Kind) (g : Given) (x : ℕ) (a : Arch) (m : List ℕ) → stores kind ≡ false → request_of kind (given_d g x) a m ≡ request_of kind g a m
+unfolding request_of effect_of given_d
+request_of_same (Store size) g x a m h = cc
+request_of_same _ g x a m h = refl
 
 second_same : (second : Second) (a : Arch) (i : Instr) (o : Operands) (x : ℕ) → second_value second a i (with_d o x) ≡ second_value second a i o
 unfolding with_d
@@ -58,33 +58,33 @@ given_same : (i : Instr) (o : Operands) (a : Arch) (x : ℕ) → given i (with_d
 unfolding given with_d given_d with_second
 given_same i o a x = ap (with_second i o a x) (second_same (second_of i.op) a i o x)
 
-abbrev placed : Kind → Instr → ℕ → Arch → Want → Want
+abbrev placed : Kind → Instr → ℕ → Arch → Request → Request
 placed kind i word a w =
     if is_banned i kind a.network then illegal a word
     else if is_some a.slot && not (belongs_into_slot kind) then Goes (stops a (stop.Slot word) None)
     else w
 
-kind_same : (kind : Kind) (i : Instr) (word : ℕ) (o : Operands) (x : ℕ) (a : Arch) (m : List ℕ) → stores kind ≡ false → wants_kind kind i word (with_d o x) a m ≡ wants_kind kind i word o a m
+kind_same : (kind : Kind) (i : Instr) (word : ℕ) (o : Operands) (x : ℕ) (a : Arch) (m : List ℕ) → stores kind ≡ false → requested_kind kind i word (with_d o x) a m ≡ requested_kind kind i word o a m
 kind_same kind i word o x a m h =
-    let e : effect kind (given i (with_d o x) a) a m ≡ effect kind (given i o a) a m = ap (λ g. effect kind g a m) (given_same i o a x) ∙ effect_same kind (given i o a) x a m h in
+    let e : request_of kind (given i (with_d o x) a) a m ≡ request_of kind (given i o a) a m = ap (λ g. request_of kind g a m) (given_same i o a x) ∙ request_of_same kind (given i o a) x a m h in
     ap (placed kind i word a) e
 
-wants_same : (i : Instr) (word : ℕ) (o : Operands) (x : ℕ) (a : Arch) (m : List ℕ) → is_store i.op ≡ false → wants (Some (here_is word i)) (with_d o x) a m ≡ wants (Some (here_is word i)) o a m
-unfolding wants
-wants_same i word o x a m h = ap (λ (w : Want). if is_end word a then Homes (comes_home a) else w) (kind_same (kind_of i.op) i word o x a m h)
+requested_same : (i : Instr) (word : ℕ) (o : Operands) (x : ℕ) (a : Arch) (m : List ℕ) → is_store i.op ≡ false → requested (Some (here_is word i)) (with_d o x) a m ≡ requested (Some (here_is word i)) o a m
+unfolding requested
+requested_same i word o x a m h = ap (λ (w : Request). if is_end word a then HaltLoop (halt_loop a) else w) (kind_same (kind_of i.op) i word o x a m h)
 
 -- the outcome is that of what is asked
 
-awake_same : (here : Option Here) (o p : Operands) (a : Arch) (m : List ℕ) (s : Shown) (asleep : Bool) → wants here o a m ≡ wants here p a m → awake here o a m s asleep ≡ awake here p a m s asleep
+awake_same : (here : Option Here) (o p : Operands) (a : Arch) (m : List ℕ) (s : Shown) (asleep : Bool) → requested here o a m ≡ requested here p a m → awake here o a m s asleep ≡ awake here p a m s asleep
 awake_same here o p a m s true e = refl
 awake_same here o p a m s false e = ap (λ w. reply a w s) e
 
-by_same : (here : Option Here) (o p : Operands) (a : Arch) (m : List ℕ) (s : Shown) (t : Option Take) (stopped : Option StopCause) → wants here o a m ≡ wants here p a m → due_by here o a m s t stopped ≡ due_by here p a m s t stopped
+by_same : (here : Option Here) (o p : Operands) (a : Arch) (m : List ℕ) (s : Shown) (t : Option Take) (stopped : Option StopCause) → requested here o a m ≡ requested here p a m → due_by here o a m s t stopped ≡ due_by here p a m s t stopped
 by_same here o p a m s t (Some cause) e = refl
 by_same here o p a m s (Some t) None e = refl
 by_same here o p a m s None None e = awake_same here o p a m s a.asleep e
 
-due_same : (i : Instr) (word : ℕ) (o p : Operands) (a : Arch) (m : List ℕ) (s : Shown) → wants (Some (here_is word i)) o a m ≡ wants (Some (here_is word i)) p a m → due_with (Some (here_is word i)) o a m s ≡ due_with (Some (here_is word i)) p a m s
+due_same : (i : Instr) (word : ℕ) (o p : Operands) (a : Arch) (m : List ℕ) (s : Shown) → requested (Some (here_is word i)) o a m ≡ requested (Some (here_is word i)) p a m → due_with (Some (here_is word i)) o a m s ≡ due_with (Some (here_is word i)) p a m s
 unfolding due_with
 due_same i word o p a m s e = by_same (Some (here_is word i)) o p a m s (take_due (Some (here_is word i)) a s) a.stopped e
 
@@ -141,7 +141,7 @@ same_by i word regs other a m s false e h =
     ap (λ x. due_with (Some (here_is word i)) (operands x (reg other i.rb) (reg other i.rd)) a m s) (operand i regs other i.ra (reads_ra i) h)
     ∙ ap (λ x. due_with (Some (here_is word i)) (operands (reg regs i.ra) x (reg other i.rd)) a m s) (operand i regs other i.rb (reads_rb i) h)
     ∙ due_same i word (with_d (operands (reg regs i.ra) (reg regs i.rb) (reg regs i.rd)) (reg other i.rd)) (operands (reg regs i.ra) (reg regs i.rb) (reg regs i.rd)) a m s
-    (wants_same i word (operands (reg regs i.ra) (reg regs i.rb) (reg regs i.rd)) (reg other i.rd) a m e)
+    (requested_same i word (operands (reg regs i.ra) (reg regs i.rb) (reg regs i.rd)) (reg other i.rd) a m e)
 
 pub reads_are_named : ReadsAreNamed
 unfolding operands

@@ -6,7 +6,7 @@ use Rattle.mb_decode.specs.declared.instruction.Instr.{Instr}
 use Rattle.mb_decode.specs.Registers.{reads}
 use Rattle.isa_step.specs.Due.{due_with}
 use Rattle.isa_step.specs.Shown.{Shown}
-use Rattle.isa_step.specs.Wants.{operands_of}
+use Rattle.isa_step.specs.Requests.{operands_of}
 use Rattle.act_laws.specs.Lateness.{here_is}
 
 -- two files of registers agree on those that an instruction reads

@@ -20,7 +20,7 @@ use crate::fault::{BoardFault, BoardRule, Fault};
 use crate::keys::{Rows, all_tables};
 use crate::list::RowList;
 use crate::rows::{read_rows, turn_of, version_of};
-use crate::rules::{check_table, check_top, wants_network};
+use crate::rules::{check_table, check_top, requested_network};
 use host_io::{NoMemory, Place};
 use std::alloc::Global;
 use toml::Table;
@@ -127,7 +127,7 @@ fn make_board(alloc: Global, root: &Table) -> Result<BoardFile, NoMemory>
     Ok(BoardFile {
         version: version_of(root),
         turn: turn_of(root),
-        network: wants_network(root),
+        network: requested_network(root),
         cores: RowList::from_vec(cores),
         links: RowList::from_vec(links),
         timers: RowList::from_vec(timers),

@@ -184,14 +184,14 @@ fn check_each_row(root: &Table, rows: Rows, best: &mut Option<Fault>)
     ensures { best.new ≡ least_after best.old (each_row (is_network (table_view root.now)) (table_view root.now) rows (rows_in (table_view root.now) rows)) }
 {
     match table_rows(root, rows) {
-        Some(members) => check_rows(wants_network(root), root, rows, members, best),
+        Some(members) => check_rows(requested_network(root), root, rows, members, best),
         None => {}
     }
 }
 
 /// Whether the file says that its board is a network.
 #[tactic(auto, unfolding(crate::specs::Rules::is_network))]
-pub fn wants_network(root: &Table) -> bool
+pub fn requested_network(root: &Table) -> bool
     ensures { result ≡ is_network (table_view root.now) }
 {
     match value_at(root, Key::Network) {

@@ -4,8 +4,8 @@ use Rattle.board_file.specs.declared.board.BoardFile.{BoardFile}
 use Rattle.board_file.specs.declared.board.CoreRow.{CoreRow}
 use Rattle.board_run.specs.Boards.{IsBuildable, IsNew}
 use Rattle.exact_machine.specs.Runs.{pipe_of}
-use Rattle.board_sound.proofs.Soundness.{read_is_sound}
-use Rattle.board_sound.specs.Sound.{IsSound}
+use Rattle.board_file_laws.proofs.Soundness.{read_is_sound}
+use Rattle.board_file_laws.specs.Sound.{IsSound}
 use Rattle.timing_law.specs.Past.{fresh as fresh_past}
 use Rattle.core_iface.specs.Cores.{CoreState, made}
 use Rattle.core_regs.specs.declared.registers.Arch.{Arch}
@@ -13,7 +13,6 @@ use Rattle.timing_law.specs.declared.pipe.Pipe.{Pipe}
 use Rattle.timing_law.specs.declared.pipe.Pipe.TheVariants as pipe
 use Rattle.any_core.specs.Any.{slack_of}
 use Rattle.host_io.specs.Outside.{Files}
-use Rattle.isa_step.specs.Deeds.{View}
 use Rattle.board_load.specs.Jobs.{Passes}
 
 -- the board can be built

@@ -9,7 +9,7 @@ use Rattle.isa_step.specs.declared.acts.Act.{Act}
 use Rattle.isa_step.specs.declared.acts.Act.TheVariants as acts
 use Rattle.isa_step.specs.declared.acts.Action.{Action}
 use Rattle.isa_step.specs.declared.acts.Action.TheVariants as action
-use Rattle.isa_step.specs.Deeds.{Deed, Due, Does, Waits, Sleeps, Ends, Stops}
+use Rattle.isa_step.specs.Effects.{Effect, Due, Does, Waits, Sleeps, Ends, Stops}
 use Rattle.isa_step.specs.Due.{due}
 use Rattle.run_journal.specs.declared.entry.What.{What}
 use Rattle.run_journal.specs.declared.entry.What.TheVariants.{Wait}
@@ -19,7 +19,7 @@ use Rattle.board_machine.specs.declared.events.Event.TheVariants.{Devices, Host,
 use Rattle.board_machine.specs.declared.events.HostPart.{HostPart}
 use Rattle.board_machine.specs.declared.events.HostPart.TheVariants.{Sends, Takes, Nothing}
 use Rattle.board_machine.specs.Bus.{DeviceRows, Serial}
-use Rattle.board_machine.specs.Fabric.{Fabric, act_leaves, breaks_come, entered, entered_some, entries_of_action, entry_of_act, entry_of_action, first_in, got_of, hopes_at, host_moves, is_kept, is_on, line_set, line_told, move_by, move_of, next_sent, no_core, or_low, part_at, sent_of, shown}
+use Rattle.board_machine.specs.Fabric.{Fabric, act_leaves, breaks_come, entered, entered_some, entries_of_action, entry_of_act, entry_of_action, first_in, got_of, hopes_at, host_moves, is_logged, is_on, line_set, line_told, move_by, move_of, next_sent, no_core, or_low, part_at, sent_of, shown}
 use Rattle.board_machine.specs.DeviceMoves.{controller, devices_moved, in_order, is_turn, latched, left_at, left_of, line_driven, line_change, output_of, timers_moved, uart_cycled, uart_moved, with_devices}
 use Rattle.board_machine.specs.World.{World, CoreAt, Step, Steps, TickMay, acts_of, devices_done, line_latched}
 use Rattle.board_machine.proofs.Steps.{moves_enter, tick_kept}
@@ -76,17 +76,17 @@ act_line (acts.Took t) = tt
 act_line (acts.Raised esr) = refl
 act_line (acts.Stopped cause) = refl
 
-deed_lines : (core act : ℕ) (deed : Deed) (f : Fabric) → SameLines f (act_leaves core act deed f)
-deed_lines core act deed f = some_lines core act (entry_of_act deed.done.act) (entered_some core act (entries_of_action deed.action) f) (act_line deed.done.act) ∙ some_lines core act (entries_of_action deed.action) f (actions_line deed.action)
+effect_lines : (core act : ℕ) (effect : Effect) (f : Fabric) → SameLines f (act_leaves core act effect f)
+effect_lines core act effect f = some_lines core act (entry_of_act effect.done.act) (entered_some core act (entries_of_action effect.action) f) (act_line effect.done.act) ∙ some_lines core act (entries_of_action effect.action) f (actions_line effect.action)
 
 pub waited_by : (core act : ℕ) (on : WaitOn) (f : Fabric) (kept : Bool) → SameLines f (cond kept f (entered core act (Wait on) f))
 waited_by core act on f true = refl
 waited_by core act on f false = refl
 
 tick_lines : (core : ℕ) (d : Due) (old : CoreAt) (before : Fabric) (new : CoreAt) (later : Fabric) → TickMay core d old before new later → SameLines before later
-tick_lines core (Does deed) old before new later (inl h) = ap (λ (f : Fabric). f.lines) h.fabric ∙ deed_lines core old.acts deed before
-tick_lines core (Does deed) old before new later (inr h) = ap (λ (f : Fabric). f.lines) h.fabric
-tick_lines core (Waits port full) old before new later (inl h) = ap (λ (f : Fabric). f.lines) h.fabric ∙ waited_by core old.acts (record { port = port; full = full }) before (is_kept core old.acts before.journal)
+tick_lines core (Does effect) old before new later (inl h) = ap (λ (f : Fabric). f.lines) h.fabric ∙ effect_lines core old.acts effect before
+tick_lines core (Does effect) old before new later (inr h) = ap (λ (f : Fabric). f.lines) h.fabric
+tick_lines core (Waits port full) old before new later (inl h) = ap (λ (f : Fabric). f.lines) h.fabric ∙ waited_by core old.acts (record { port = port; full = full }) before (is_logged core old.acts before.journal)
 tick_lines core (Waits port full) old before new later (inr h) = ap (λ (f : Fabric). f.lines) h.fabric
 tick_lines core Sleeps old before new later h = ap (λ (f : Fabric). f.lines) h.fabric
 tick_lines core Ends old before new later h = ap (λ (f : Fabric). f.lines) h.fabric

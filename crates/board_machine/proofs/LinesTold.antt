@@ -5,14 +5,14 @@ use Rattle.std.proofs.lemmas.Bool.{cases_eq, eq-eqb, ne_eqb}
 use Rattle.std.proofs.lemmas.List.Sums.{fold-append}
 use Rattle.std.proofs.lemmas.Option.{same_Some}
 use Rattle.core_regs.specs.declared.causes.WaitOn.{WaitOn}
-use Rattle.isa_step.specs.Deeds.{Deed, Due, Does, Waits, Sleeps, Ends, Stops}
+use Rattle.isa_step.specs.Effects.{Effect, Due, Does, Waits, Sleeps, Ends, Stops}
 use Rattle.isa_step.specs.Due.{due}
 use Rattle.run_journal.specs.declared.entry.Entry.{Entry}
 use Rattle.run_journal.specs.declared.entry.What.{What}
 use Rattle.run_journal.specs.declared.entry.What.TheVariants.{Wait}
 use Rattle.board_machine.specs.declared.events.Event.{Event}
 use Rattle.board_machine.specs.declared.events.Event.TheVariants.{Devices, Host, Tick, Next}
-use Rattle.board_machine.specs.Fabric.{Fabric, act_leaves, breaks_come, entered, entered_some, entries_of_action, entry_of, entry_of_act, host_moves, is_kept, line_set, line_told, move_of, no_core, or_low, shown}
+use Rattle.board_machine.specs.Fabric.{Fabric, act_leaves, breaks_come, entered, entered_some, entries_of_action, entry_of, entry_of_act, host_moves, is_logged, line_set, line_told, move_of, no_core, or_low, shown}
 use Rattle.board_machine.specs.DeviceMoves.{devices_moved, in_order, is_turn, left_at, line_driven, line_change, timers_moved, uart_cycled, uart_moved, with_devices}
 use Rattle.board_machine.specs.World.{World, CoreAt, Step, TickMay, acts_of, devices_done, line_latched}
 use Rattle.board_machine.proofs.DeviceSteps.{order_keeps}
@@ -85,9 +85,9 @@ waited_keeps core act on f false h = entered_keeps core act (Wait on) f h
 later_keeps : (f g later : Fabric) → later ≡ g → KeepsLines f g → KeepsLines f later
 later_keeps f g later e k = subst (KeepsLines f) (sym e) k
 
-deed_keeps : (core act : ℕ) (deed : Deed) (f : Fabric) → KeepsLines f (act_leaves core act deed f)
+effect_keeps : (core act : ℕ) (effect : Effect) (f : Fabric) → KeepsLines f (act_leaves core act effect f)
 unfolding KeepsLines
-deed_keeps core act deed f h = some_keeps core act (entry_of_act deed.done.act) (entered_some core act (entries_of_action deed.action) f) (some_keeps core act (entries_of_action deed.action) f h)
+effect_keeps core act effect f h = some_keeps core act (entry_of_act effect.done.act) (entered_some core act (entries_of_action effect.action) f) (some_keeps core act (entries_of_action effect.action) f h)
 
 itself_keeps : (f : Fabric) → KeepsLines f f
 unfolding KeepsLines
@@ -98,9 +98,9 @@ unfolding KeepsLines
 then_keeps f g k a b h = b (a h)
 
 tick_keeps : (core : ℕ) (d : Due) (old : CoreAt) (before : Fabric) (new : CoreAt) (later : Fabric) → TickMay core d old before new later → KeepsLines before later
-tick_keeps core (Does deed) old before new later (inl h) = later_keeps before _ later h.fabric (deed_keeps core old.acts deed before)
-tick_keeps core (Does deed) old before new later (inr h) = later_keeps before before later h.fabric (itself_keeps before)
-tick_keeps core (Waits port full) old before new later (inl h) = later_keeps before _ later h.fabric (waited_keeps core old.acts (record { port = port; full = full }) before (is_kept core old.acts before.journal))
+tick_keeps core (Does effect) old before new later (inl h) = later_keeps before _ later h.fabric (effect_keeps core old.acts effect before)
+tick_keeps core (Does effect) old before new later (inr h) = later_keeps before before later h.fabric (itself_keeps before)
+tick_keeps core (Waits port full) old before new later (inl h) = later_keeps before _ later h.fabric (waited_keeps core old.acts (record { port = port; full = full }) before (is_logged core old.acts before.journal))
 tick_keeps core (Waits port full) old before new later (inr h) = later_keeps before before later h.fabric (itself_keeps before)
 tick_keeps core Sleeps old before new later h = later_keeps before before later h.fabric (itself_keeps before)
 tick_keeps core Ends old before new later h = later_keeps before before later h.fabric (itself_keeps before)

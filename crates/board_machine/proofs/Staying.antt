@@ -7,9 +7,9 @@ use Rattle.std.proofs.lemmas.List.{append-nil, append_assoc, map-set}
 use Rattle.std.proofs.lemmas.Option.{same_Some, slice_get-map, slice_get_past, slice_get_within}
 use Rattle.core_regs.specs.declared.causes.WaitOn.{WaitOn}
 use Rattle.isa_step.specs.declared.acts.Idle.{Idle}
-use Rattle.isa_step.specs.Deeds.{View, Due, Does, Waits, Sleeps, Ends, Stops}
+use Rattle.isa_step.specs.Effects.{View, Due, Does, Waits, Sleeps, Ends, Stops}
 use Rattle.isa_step.specs.Due.{due}
-use Rattle.isa_step.specs.Resting.{IsHoped, idle_due, idle_view}
+use Rattle.isa_step.specs.Resting.{IsAnnounced, idle_due, idle_view}
 use Rattle.isa_step.proofs.RestLaws.{idle_lasts}
 use Rattle.run_journal.specs.declared.entry.Entry.{Entry}
 use Rattle.run_journal.specs.declared.entry.What.TheVariants.{Wait, LineUp, LineDown}
@@ -25,7 +25,7 @@ use Rattle.board_machine.specs.Bus.{DeviceRows, Devices as DeviceSet, Serial, is
 use Rattle.board_machine.specs.DeviceMoves.{devices_moved, edge_used, in_order, intc_moved, intc_moved_by, intcs_moved, is_of, is_turn, left_at, left_of, line_driven, line_change, timer_moved, timers_moved, uart_asked, uart_cycled, uart_moved, with_devices}
 use Rattle.board_machine.proofs.DeviceSteps.{order_keeps}
 use Rattle.board_machine.proofs.Alike.{rest_alike}
-use Rattle.board_machine.specs.Fabric.{Fabric, entered, entered_some, entry_of, breaks_come, host_moves, hopes_at, is_kept, move_by, move_of, part_at, moved, no_core, or_low, shown}
+use Rattle.board_machine.specs.Fabric.{Fabric, entered, entered_some, entry_of, breaks_come, host_moves, hopes_at, is_logged, move_by, move_of, part_at, moved, no_core, or_low, shown}
 use Rattle.board_machine.specs.World.{World, CoreAt, acts_of, devices_done, line_latched, Step, Steps, TickStep, TickMay, IsIdle, need}
 use Rattle.board_machine.specs.Resting.{Still, Rests, and_idle, idle_at, idle_here, is_note, is_outside_still, is_quiet_to, joined, rest_of, rest_to}
 use Rattle.board_machine.specs.Cycles.{end_at, end_of}
@@ -51,9 +51,9 @@ same_then f g h a b = b ∙ ap (λ (x : Fabric). record x { cycle = h.cycle; dev
 or_left : (a b : Bool) → a ≡ true → a || b ≡ true
 or_left a b e = rw e refl
 
--- what has come to a core was hoped for
-pub hoped : (f : Fabric) (core : ℕ) → IsHoped (shown f core)
-hoped f core = record {
+-- what has come to a core was announced for
+pub announced : (f : Fabric) (core : ℕ) → IsAnnounced (shown f core)
+announced f core = record {
   interrupt = λ e. and_left _ _ e;
   maskable = λ e. or_left _ _ e;
   nonmaskable = λ e. or_left _ _ e;
@@ -115,10 +115,10 @@ idle_unmoved : (w v : World) → list_all is_done w.fabric.devices.uarts ≡ tru
 idle_unmoved w v d core h i = same_unmoved w v d i.fabric (same_part (λ (s : CoreAt). s.view) w v core h (ap (λ (s : CoreAt). s.view) i.state)) (same_part (λ (s : CoreAt). s.acts) w v core h (ap (λ (s : CoreAt). s.acts) i.state))
 
 tick_unmoved : (w v : World) → list_all is_done w.fabric.devices.uarts ≡ true → (core : ℕ) (h : TickStep core w v) (d : Due) (why : Idle) → idle_due d ≡ Some why → TickMay core d h.was w.fabric h.is v.fabric → Unmoved w v
-tick_unmoved w v u core h (Does deed) why n m = cc
+tick_unmoved w v u core h (Does effect) why n m = cc
 tick_unmoved w v u core h (Waits port full) why n (inl i) =
     let on : WaitOn = record { port = port; full = full } in
-    wait_unmoved w v u core h.was.acts on (is_kept core h.was.acts w.fabric.journal) i.fabric
+    wait_unmoved w v u core h.was.acts on (is_logged core h.was.acts w.fabric.journal) i.fabric
     (same_part (λ (s : CoreAt). s.view) w v core h (ap (λ (s : CoreAt). s.view) i.state)) (same_part (λ (s : CoreAt). s.acts) w v core h (ap (λ (s : CoreAt). s.acts) i.state))
 tick_unmoved w v u core h (Waits port full) why n (inr i) = same_unmoved w v u i.fabric (same_part (λ (s : CoreAt). s.view) w v core h (ap (λ (s : CoreAt). s.view) i.state)) (same_part (λ (s : CoreAt). s.acts) w v core h (ap (λ (s : CoreAt). s.acts) i.state))
 tick_unmoved w v u core h Sleeps why n i = idle_unmoved w v u core h i
@@ -275,7 +275,7 @@ step_unmoved w v Host s h = same_unmoved w v s.uarts (ap (λ (w : World). w.fabr
 step_unmoved w v (Tick core) s h =
     let i = some_of (idle_at w core) (s.cores core h.was h.there) in
     tick_unmoved w v s.uarts core h (due h.was.view (shown w.fabric core)) i.0
-    (idle_lasts h.was.view (shown w.fabric core) i.0 (hoped w.fabric core) (sym (ap (idle_here w.fabric core) h.there) ∙ i.1)) h.may
+    (idle_lasts h.was.view (shown w.fabric core) i.0 (announced w.fabric core) (sym (ap (idle_here w.fabric core) h.there) ∙ i.1)) h.may
 step_unmoved w v Next s h = subst (Unmoved w) (sym h) (record { same = refl; uarts = s.uarts; views = refl; acts = refl; added = []; journal = sym (append-nil _); notes = tt })
 
 -- from a still board, whatever the events

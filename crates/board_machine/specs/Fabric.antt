@@ -14,7 +14,7 @@ use Rattle.isa_step.specs.declared.acts.Action.TheVariants as action
 use Rattle.isa_step.specs.declared.acts.Breaks.{Breaks}
 use Rattle.isa_step.specs.declared.acts.Hopes.{Hopes}
 use Rattle.isa_step.specs.Shown.{Shown}
-use Rattle.isa_step.specs.Deeds.{Deed}
+use Rattle.isa_step.specs.Effects.{Effect}
 use Rattle.run_journal.specs.declared.entry.Entry.{Entry}
 use Rattle.run_journal.specs.declared.entry.What.{What}
 use Rattle.run_journal.specs.declared.entry.What.TheVariants.{Got, Sent, Seen, Room, Missed, Read, ReadRefused, Wrote, WriteRefused, Took, Raised, Slept, Stopped, Wait, LineUp, LineDown, HostSent, HostGot}
@@ -215,8 +215,8 @@ entry_of_act (acts.Raised esr) = Some (Raised esr)
 entry_of_act (acts.Stopped cause) = Some (Stopped cause)
 
 -- the fabric after an act: its action at the ports, and then the act itself
-abbrev pub act_leaves : ℕ → ℕ → Deed → Fabric → Fabric
-act_leaves core act deed f = entered_some core act (entry_of_act deed.done.act) (entered_some core act (entries_of_action deed.action) f)
+abbrev pub act_leaves : ℕ → ℕ → Effect → Fabric → Fabric
+act_leaves core act effect f = entered_some core act (entry_of_act effect.done.act) (entered_some core act (entries_of_action effect.action) f)
 
 -- waits
 
@@ -228,24 +228,24 @@ abbrev pub kept_after : ℕ → Option ℕ → Entry → Option ℕ
 kept_after core kept e = if e.core == core && is_wait e.what then Some e.act else kept
 
 -- the act number that the last Wait entry of a core bears
-unfoldable pub kept_wait : ℕ → List Entry → Option ℕ
-kept_wait core journal = fold (kept_after core) None journal
+unfoldable pub logged_wait : ℕ → List Entry → Option ℕ
+logged_wait core journal = fold (kept_after core) None journal
 
 abbrev pub is_act : Option ℕ → ℕ → Bool
 is_act None act = false
 is_act (Some a) act = a == act
 
 -- a wait is kept from its entry to the core's next act: the core's last Wait entry bears the number of the act to come
-abbrev pub is_kept : ℕ → ℕ → List Entry → Bool
-is_kept core act journal = is_act (kept_wait core journal) act
+abbrev pub is_logged : ℕ → ℕ → List Entry → Bool
+is_logged core act journal = is_act (logged_wait core journal) act
 
 -- a list that says for each core which act its last Wait entry bears
 pub record KeepsWaits (waits : List (Option ℕ)) (journal : List Entry) : Type 0 where
-  pub each : (core : ℕ) (kept : Option ℕ) → slice_get waits core ≡ Some kept → kept ≡ kept_wait core journal
+  pub each : (core : ℕ) (kept : Option ℕ) → slice_get waits core ≡ Some kept → kept ≡ logged_wait core journal
 
 -- the fabric after a tick that waits: the wait is entered where none is kept
 abbrev pub waited : ℕ → ℕ → WaitOn → Fabric → Fabric
-waited core act on f = if is_kept core act f.journal then f else entered core act (Wait on) f
+waited core act on f = if is_logged core act f.journal then f else entered core act (Wait on) f
 
 -- the host
 

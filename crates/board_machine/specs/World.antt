@@ -2,7 +2,7 @@
 use Rattle.std.specs.Prelude.{◌≡◌, ℕ, ◌+◌, ◌*◌, ◌^◌, ◌≤◌, ◌<◌, ◌⊎◌, false, List, [], ◌∷◌, length, Option, Some, None, slice_get, slice_set, map}
 use Rattle.std.specs.List.{AllByRecursion}
 use Rattle.axi_link.specs.Channel.{empty}
-use Rattle.isa_step.specs.Deeds.{View, Deed, Due, Does, Waits, Sleeps, Ends, Stops, after}
+use Rattle.isa_step.specs.Effects.{View, Effect, Due, Does, Waits, Sleeps, Ends, Stops, after}
 use Rattle.isa_step.specs.Due.{due}
 use Rattle.link_file.specs.File.{items_of}
 use Rattle.board_file.specs.declared.board.BoardFile.{BoardFile}
@@ -42,10 +42,10 @@ pub record World : Type 0 where
   pub fabric : Fabric
 
 -- the act is done
-pub record IsAct (core : ℕ) (deed : Deed) (old : CoreAt) (before : Fabric) (new : CoreAt) (later : Fabric) : Type 0 where
+pub record IsAct (core : ℕ) (effect : Effect) (old : CoreAt) (before : Fabric) (new : CoreAt) (later : Fabric) : Type 0 where
   pub slack : new.slack < 64
-  pub state : new ≡ record { view = after old.view deed; acts = old.acts + 1; ticks = old.ticks + 1; slack = new.slack }
-  pub fabric : later ≡ act_leaves core old.acts deed before
+  pub state : new ≡ record { view = after old.view effect; acts = old.acts + 1; ticks = old.ticks + 1; slack = new.slack }
+  pub fabric : later ≡ act_leaves core old.acts effect before
 
 -- nothing changes but that the slack falls
 pub record IsFilling (old : CoreAt) (before : Fabric) (new : CoreAt) (later : Fabric) : Type 0 where
@@ -60,7 +60,7 @@ pub record IsIdle (old : CoreAt) (left : Fabric) (new : CoreAt) (later : Fabric)
 
 -- what a tick of a core may do, by the outcome that is due
 abbrev pub TickMay : ℕ → Due → CoreAt → Fabric → CoreAt → Fabric → Type 0
-TickMay core (Does deed) old before new later = IsAct core deed old before new later ⊎ IsFilling old before new later
+TickMay core (Does effect) old before new later = IsAct core effect old before new later ⊎ IsFilling old before new later
 TickMay core (Waits port full) old before new later = IsIdle old (waited core old.acts (record { port = port; full = full }) before) new later ⊎ IsFilling old before new later
 TickMay core Sleeps old before new later = IsIdle old before new later
 TickMay core Ends old before new later = IsIdle old before new later

@@ -8,21 +8,21 @@ use Rattle.core_iface.specs.declared.Tick.{Tick}
 use Rattle.core_iface.specs.declared.Tick.TheVariants.{Acted, Ended, Filling, Sleeping, Stopped, Waiting}
 use Rattle.exact_machine.specs.Machine.{ExactCore, ExactWorld}
 use Rattle.exact_machine.specs.Profile.{Spent, reason, spent, spent_by}
-use Rattle.isa_step.specs.Deeds.{Does, Due, Ends, Sleeps, Stops, Waits}
+use Rattle.isa_step.specs.Effects.{Does, Due, Ends, Sleeps, Stops, Waits}
 
 says_by : (d : Due) (held quiet : Bool) (answer : Tick) (why : Spent) → AnswerOf d held quiet answer → spent_on answer why ≡ spent_by d held quiet why
-says_by (Does deed) false quiet (Acted act) why h = refl
-says_by (Does deed) true quiet (Acted act) why h = absurd h
-says_by (Does deed) false quiet Filling why h = absurd h
-says_by (Does deed) true quiet Filling why h = refl
-says_by (Does deed) false quiet (Waiting on) why h = absurd h
-says_by (Does deed) true quiet (Waiting on) why h = absurd h
-says_by (Does deed) false quiet Sleeping why h = absurd h
-says_by (Does deed) true quiet Sleeping why h = absurd h
-says_by (Does deed) false quiet Ended why h = absurd h
-says_by (Does deed) true quiet Ended why h = absurd h
-says_by (Does deed) false quiet (Stopped cause) why h = absurd h
-says_by (Does deed) true quiet (Stopped cause) why h = absurd h
+says_by (Does effect) false quiet (Acted act) why h = refl
+says_by (Does effect) true quiet (Acted act) why h = absurd h
+says_by (Does effect) false quiet Filling why h = absurd h
+says_by (Does effect) true quiet Filling why h = refl
+says_by (Does effect) false quiet (Waiting on) why h = absurd h
+says_by (Does effect) true quiet (Waiting on) why h = absurd h
+says_by (Does effect) false quiet Sleeping why h = absurd h
+says_by (Does effect) true quiet Sleeping why h = absurd h
+says_by (Does effect) false quiet Ended why h = absurd h
+says_by (Does effect) true quiet Ended why h = absurd h
+says_by (Does effect) false quiet (Stopped cause) why h = absurd h
+says_by (Does effect) true quiet (Stopped cause) why h = absurd h
 says_by (Waits port full) false quiet (Acted act) why h = absurd h
 says_by (Waits port full) true quiet (Acted act) why h = absurd h
 says_by (Waits port full) false quiet Filling why h = absurd h

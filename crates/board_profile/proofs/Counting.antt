@@ -5,7 +5,7 @@ use Rattle.std.proofs.Common.{ap₂, replicate}
 use Rattle.std.specs.Prelude.{option_map}
 use Rattle.std.proofs.lemmas.List.{length-replicate, length-set, map-set}
 use Rattle.std.proofs.lemmas.Option.{same_Some, slice_get-map}
-use Rattle.isa_step.specs.Deeds.{Does, Due, Ends, Sleeps, Stops, Waits}
+use Rattle.isa_step.specs.Effects.{Does, Due, Ends, Sleeps, Stops, Waits}
 use Rattle.isa_step.specs.Due.{due}
 use Rattle.board_machine.specs.declared.events.Event.{Event}
 use Rattle.board_machine.specs.declared.events.Event.TheVariants.{Devices, Host, Tick, Next}
@@ -86,8 +86,8 @@ one_more Sleeping p = omega arith
 one_more Resting p = omega arith
 
 tick_more : (d : Due) (held : Bool) (s : ExactCore) → (core_after d held s).ticks ≡ s.ticks + 1
-tick_more (Does deed) false s = refl
-tick_more (Does deed) true s = refl
+tick_more (Does effect) false s = refl
+tick_more (Does effect) true s = refl
 tick_more (Waits port full) held s = refl
 tick_more Sleeps held s = refl
 tick_more Ends held s = refl

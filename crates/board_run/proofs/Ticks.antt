@@ -7,7 +7,7 @@ use Rattle.core_regs.specs.declared.causes.WaitOn.{WaitOn}
 use Rattle.isa_step.specs.declared.acts.Act.{Act}
 use Rattle.isa_step.specs.declared.acts.Action.{Action}
 use Rattle.isa_step.specs.Shown.{Shown, Moves}
-use Rattle.isa_step.specs.Deeds.{View, Due, Does, Waits, Sleeps, Ends, Stops}
+use Rattle.isa_step.specs.Effects.{View, Due, Does, Waits, Sleeps, Ends, Stops}
 use Rattle.core_regs.specs.State.{bare}
 use Rattle.isa_step.specs.Due.{due, here_of, take_due}
 use Rattle.prepared_act.proofs.Offers.{nothing_taken}
@@ -16,7 +16,7 @@ use Rattle.board_machine.specs.Resting.{idle_at, idle_here}
 use Rattle.board_machine.specs.World.{acts_of}
 use Rattle.board_machine.specs.declared.events.Event.TheVariants.{Tick as TickOfCore}
 use Rattle.isa_step.specs.declared.acts.Idle.{Idle}
-use Rattle.isa_step.specs.Resting.{IsHoped, idle_due, idle_view}
+use Rattle.isa_step.specs.Resting.{IsAnnounced, idle_due, idle_view}
 use Rattle.isa_step.proofs.RestLaws.{idle_lasts}
 use Rattle.core_iface.specs.declared.Tick.{Tick}
 use Rattle.core_iface.specs.declared.Tick.TheVariants.{Acted, Filling, Waiting, Sleeping, Ended, Stopped}
@@ -24,8 +24,8 @@ use Rattle.core_iface.specs.Cores.{CoreState, is_early, is_held}
 use Rattle.core_iface.specs.Ticks.{AloneOf, Ticks, TicksAlone, TickOf, is_view_quiet}
 use Rattle.prepared_act.specs.Retiring.{is_offered}
 use Rattle.board_machine.proofs.Lines.{act_line, some_lines, waited_by}
-use Rattle.board_machine.proofs.Staying.{hoped}
-use Rattle.board_machine.specs.Fabric.{Fabric, breaks_at, or_low, shown, entered, entered_some, entries_of_action, entry_of_act, entry_of_action, is_kept, waited}
+use Rattle.board_machine.proofs.Staying.{announced}
+use Rattle.board_machine.specs.Fabric.{Fabric, breaks_at, or_low, shown, entered, entered_some, entries_of_action, entry_of_act, entry_of_action, is_logged, waited}
 use Rattle.board_run.specs.Boards.{AnswerOf, answered, core_of, exact_acts, exact_idle, idle_of}
 
 -- a core as the board machine sees it
@@ -65,21 +65,21 @@ pub record IsExactTick (core : ℕ) (d : Due) (held : Bool) (old : CoreState) (b
 
 -- a tick
 tick_of : {P : Type 0} (done : P → List Action) (spare : P → ℕ) (leaves : P → Action → P → Type 0) (fabric : P → Fabric) (core : ℕ) (d : Due) (held quiet : Bool) (answer : Tick) (old : CoreState) (p : P) (new : CoreState) (q : P) → ((a : Action) → leaves p a q → fabric q ≡ entered core old.acts (entry_of_action a) (fabric p)) → TickOf done spare leaves d held quiet answer old p new q → IsExactTick core d held old (fabric p) new (answered core old.acts answer (fabric q))
-tick_of done spare leaves fabric core (Does deed) false quiet (Acted a) old p new q does h = record {
+tick_of done spare leaves fabric core (Does effect) false quiet (Acted a) old p new q does h = record {
   core_is = ap core_of h.1.core;
-  fabric = ap (λ a. entered_some core old.acts (entry_of_act a) (fabric q)) h.0 ∙ ap (entered_some core old.acts (entry_of_act deed.done.act)) (leaves_act done spare leaves fabric core old.acts deed.action p q does h.1.ports);
+  fabric = ap (λ a. entered_some core old.acts (entry_of_act a) (fabric q)) h.0 ∙ ap (entered_some core old.acts (entry_of_act effect.done.act)) (leaves_act done spare leaves fabric core old.acts effect.action p q does h.1.ports);
 }
-tick_of done spare leaves fabric core (Does deed) true quiet (Acted a) old p new q does h = absurd h
-tick_of done spare leaves fabric core (Does deed) true quiet Filling old p new q does h = record { core_is = ap core_of h.core; fabric = ap fabric h.ports }
-tick_of done spare leaves fabric core (Does deed) false quiet Filling old p new q does h = absurd h
-tick_of done spare leaves fabric core (Does deed) true quiet (Waiting on) old p new q does h = absurd h
-tick_of done spare leaves fabric core (Does deed) false quiet (Waiting on) old p new q does h = absurd h
-tick_of done spare leaves fabric core (Does deed) true quiet Sleeping old p new q does h = absurd h
-tick_of done spare leaves fabric core (Does deed) false quiet Sleeping old p new q does h = absurd h
-tick_of done spare leaves fabric core (Does deed) true quiet Ended old p new q does h = absurd h
-tick_of done spare leaves fabric core (Does deed) false quiet Ended old p new q does h = absurd h
-tick_of done spare leaves fabric core (Does deed) true quiet (Stopped why) old p new q does h = absurd h
-tick_of done spare leaves fabric core (Does deed) false quiet (Stopped why) old p new q does h = absurd h
+tick_of done spare leaves fabric core (Does effect) true quiet (Acted a) old p new q does h = absurd h
+tick_of done spare leaves fabric core (Does effect) true quiet Filling old p new q does h = record { core_is = ap core_of h.core; fabric = ap fabric h.ports }
+tick_of done spare leaves fabric core (Does effect) false quiet Filling old p new q does h = absurd h
+tick_of done spare leaves fabric core (Does effect) true quiet (Waiting on) old p new q does h = absurd h
+tick_of done spare leaves fabric core (Does effect) false quiet (Waiting on) old p new q does h = absurd h
+tick_of done spare leaves fabric core (Does effect) true quiet Sleeping old p new q does h = absurd h
+tick_of done spare leaves fabric core (Does effect) false quiet Sleeping old p new q does h = absurd h
+tick_of done spare leaves fabric core (Does effect) true quiet Ended old p new q does h = absurd h
+tick_of done spare leaves fabric core (Does effect) false quiet Ended old p new q does h = absurd h
+tick_of done spare leaves fabric core (Does effect) true quiet (Stopped why) old p new q does h = absurd h
+tick_of done spare leaves fabric core (Does effect) false quiet (Stopped why) old p new q does h = absurd h
 tick_of done spare leaves fabric core (Waits port full) true quiet (Acted a) old p new q does h = absurd h
 tick_of done spare leaves fabric core (Waits port full) false quiet (Acted a) old p new q does h = absurd h
 tick_of done spare leaves fabric core (Waits port full) true quiet Filling old p new q does h = record { core_is = ap core_of h.core; fabric = ap fabric h.ports }
@@ -131,18 +131,18 @@ moves_once done spare leaves None p q h = omega (arith, ap spare h)
 moves_once done spare leaves (Some a) p q h = omega (arith, h.spared)
 
 once_of : {P : Type 0} (done : P → List Action) (spare : P → ℕ) (leaves : P → Action → P → Type 0) (d : Due) (held quiet : Bool) (answer : Tick) (old : CoreState) (p : P) (new : CoreState) (q : P) → TickOf done spare leaves d held quiet answer old p new q → spare p ≤ spare q + 1
-once_of done spare leaves (Does deed) false quiet (Acted a) old p new q h = moves_once done spare leaves deed.action p q h.1.ports
-once_of done spare leaves (Does deed) true quiet (Acted a) old p new q h = absurd h
-once_of done spare leaves (Does deed) true quiet Filling old p new q h = omega (arith, ap spare h.ports)
-once_of done spare leaves (Does deed) false quiet Filling old p new q h = absurd h
-once_of done spare leaves (Does deed) true quiet (Waiting on) old p new q h = absurd h
-once_of done spare leaves (Does deed) false quiet (Waiting on) old p new q h = absurd h
-once_of done spare leaves (Does deed) true quiet Sleeping old p new q h = absurd h
-once_of done spare leaves (Does deed) false quiet Sleeping old p new q h = absurd h
-once_of done spare leaves (Does deed) true quiet Ended old p new q h = absurd h
-once_of done spare leaves (Does deed) false quiet Ended old p new q h = absurd h
-once_of done spare leaves (Does deed) true quiet (Stopped why) old p new q h = absurd h
-once_of done spare leaves (Does deed) false quiet (Stopped why) old p new q h = absurd h
+once_of done spare leaves (Does effect) false quiet (Acted a) old p new q h = moves_once done spare leaves effect.action p q h.1.ports
+once_of done spare leaves (Does effect) true quiet (Acted a) old p new q h = absurd h
+once_of done spare leaves (Does effect) true quiet Filling old p new q h = omega (arith, ap spare h.ports)
+once_of done spare leaves (Does effect) false quiet Filling old p new q h = absurd h
+once_of done spare leaves (Does effect) true quiet (Waiting on) old p new q h = absurd h
+once_of done spare leaves (Does effect) false quiet (Waiting on) old p new q h = absurd h
+once_of done spare leaves (Does effect) true quiet Sleeping old p new q h = absurd h
+once_of done spare leaves (Does effect) false quiet Sleeping old p new q h = absurd h
+once_of done spare leaves (Does effect) true quiet Ended old p new q h = absurd h
+once_of done spare leaves (Does effect) false quiet Ended old p new q h = absurd h
+once_of done spare leaves (Does effect) true quiet (Stopped why) old p new q h = absurd h
+once_of done spare leaves (Does effect) false quiet (Stopped why) old p new q h = absurd h
 once_of done spare leaves (Waits port full) true quiet (Acted a) old p new q h = absurd h
 once_of done spare leaves (Waits port full) false quiet (Acted a) old p new q h = absurd h
 once_of done spare leaves (Waits port full) true quiet Filling old p new q h = omega (arith, ap spare h.ports)
@@ -189,18 +189,18 @@ moves_keep done spare leaves part None p q does h = ap part h
 moves_keep done spare leaves part (Some a) p q does h = does a h.left
 
 kept_of : {P X : Type 0} (done : P → List Action) (spare : P → ℕ) (leaves : P → Action → P → Type 0) (part : P → X) (d : Due) (held quiet : Bool) (answer : Tick) (old : CoreState) (p : P) (new : CoreState) (q : P) → ((a : Action) → leaves p a q → part q ≡ part p) → TickOf done spare leaves d held quiet answer old p new q → part q ≡ part p
-kept_of done spare leaves part (Does deed) false quiet (Acted a) old p new q does h = moves_keep done spare leaves part deed.action p q does h.1.ports
-kept_of done spare leaves part (Does deed) true quiet (Acted a) old p new q does h = absurd h
-kept_of done spare leaves part (Does deed) true quiet Filling old p new q does h = ap part h.ports
-kept_of done spare leaves part (Does deed) false quiet Filling old p new q does h = absurd h
-kept_of done spare leaves part (Does deed) true quiet (Waiting on) old p new q does h = absurd h
-kept_of done spare leaves part (Does deed) false quiet (Waiting on) old p new q does h = absurd h
-kept_of done spare leaves part (Does deed) true quiet Sleeping old p new q does h = absurd h
-kept_of done spare leaves part (Does deed) false quiet Sleeping old p new q does h = absurd h
-kept_of done spare leaves part (Does deed) true quiet Ended old p new q does h = absurd h
-kept_of done spare leaves part (Does deed) false quiet Ended old p new q does h = absurd h
-kept_of done spare leaves part (Does deed) true quiet (Stopped why) old p new q does h = absurd h
-kept_of done spare leaves part (Does deed) false quiet (Stopped why) old p new q does h = absurd h
+kept_of done spare leaves part (Does effect) false quiet (Acted a) old p new q does h = moves_keep done spare leaves part effect.action p q does h.1.ports
+kept_of done spare leaves part (Does effect) true quiet (Acted a) old p new q does h = absurd h
+kept_of done spare leaves part (Does effect) true quiet Filling old p new q does h = ap part h.ports
+kept_of done spare leaves part (Does effect) false quiet Filling old p new q does h = absurd h
+kept_of done spare leaves part (Does effect) true quiet (Waiting on) old p new q does h = absurd h
+kept_of done spare leaves part (Does effect) false quiet (Waiting on) old p new q does h = absurd h
+kept_of done spare leaves part (Does effect) true quiet Sleeping old p new q does h = absurd h
+kept_of done spare leaves part (Does effect) false quiet Sleeping old p new q does h = absurd h
+kept_of done spare leaves part (Does effect) true quiet Ended old p new q does h = absurd h
+kept_of done spare leaves part (Does effect) false quiet Ended old p new q does h = absurd h
+kept_of done spare leaves part (Does effect) true quiet (Stopped why) old p new q does h = absurd h
+kept_of done spare leaves part (Does effect) false quiet (Stopped why) old p new q does h = absurd h
 kept_of done spare leaves part (Waits port full) true quiet (Acted a) old p new q does h = absurd h
 kept_of done spare leaves part (Waits port full) false quiet (Acted a) old p new q does h = absurd h
 kept_of done spare leaves part (Waits port full) true quiet Filling old p new q does h = ap part h.ports
@@ -245,25 +245,25 @@ tick_keeps {done = done} {spare = spare} {leaves = leaves} {shown = shown} {answ
 pub answered_lines : (core act : ℕ) (answer : Tick) (f : Fabric) → (answered core act answer f).lines ≡ f.lines
 answered_lines core act (Acted a) f = some_lines core act (entry_of_act a) f (act_line a)
 answered_lines core act Filling f = refl
-answered_lines core act (Waiting on) f = waited_by core act on f (is_kept core act f.journal)
+answered_lines core act (Waiting on) f = waited_by core act on f (is_logged core act f.journal)
 answered_lines core act Sleeping f = refl
 answered_lines core act Ended f = refl
 answered_lines core act (Stopped why) f = refl
 
 -- the answer of a tick says what was due, and whether it was done
 answer_of : {P : Type 0} (done : P → List Action) (spare : P → ℕ) (leaves : P → Action → P → Type 0) (d : Due) (held quiet : Bool) (answer : Tick) (old : CoreState) (p : P) (new : CoreState) (q : P) → TickOf done spare leaves d held quiet answer old p new q → AnswerOf d held quiet answer
-answer_of done spare leaves (Does deed) false quiet (Acted a) old p new q h = h.0
-answer_of done spare leaves (Does deed) true quiet (Acted a) old p new q h = absurd h
-answer_of done spare leaves (Does deed) true quiet Filling old p new q h = tt
-answer_of done spare leaves (Does deed) false quiet Filling old p new q h = absurd h
-answer_of done spare leaves (Does deed) true quiet (Waiting on) old p new q h = absurd h
-answer_of done spare leaves (Does deed) false quiet (Waiting on) old p new q h = absurd h
-answer_of done spare leaves (Does deed) true quiet Sleeping old p new q h = absurd h
-answer_of done spare leaves (Does deed) false quiet Sleeping old p new q h = absurd h
-answer_of done spare leaves (Does deed) true quiet Ended old p new q h = absurd h
-answer_of done spare leaves (Does deed) false quiet Ended old p new q h = absurd h
-answer_of done spare leaves (Does deed) true quiet (Stopped why) old p new q h = absurd h
-answer_of done spare leaves (Does deed) false quiet (Stopped why) old p new q h = absurd h
+answer_of done spare leaves (Does effect) false quiet (Acted a) old p new q h = h.0
+answer_of done spare leaves (Does effect) true quiet (Acted a) old p new q h = absurd h
+answer_of done spare leaves (Does effect) true quiet Filling old p new q h = tt
+answer_of done spare leaves (Does effect) false quiet Filling old p new q h = absurd h
+answer_of done spare leaves (Does effect) true quiet (Waiting on) old p new q h = absurd h
+answer_of done spare leaves (Does effect) false quiet (Waiting on) old p new q h = absurd h
+answer_of done spare leaves (Does effect) true quiet Sleeping old p new q h = absurd h
+answer_of done spare leaves (Does effect) false quiet Sleeping old p new q h = absurd h
+answer_of done spare leaves (Does effect) true quiet Ended old p new q h = absurd h
+answer_of done spare leaves (Does effect) false quiet Ended old p new q h = absurd h
+answer_of done spare leaves (Does effect) true quiet (Stopped why) old p new q h = absurd h
+answer_of done spare leaves (Does effect) false quiet (Stopped why) old p new q h = absurd h
 answer_of done spare leaves (Waits port full) true quiet (Acted a) old p new q h = absurd h
 answer_of done spare leaves (Waits port full) false quiet (Acted a) old p new q h = absurd h
 answer_of done spare leaves (Waits port full) true quiet Filling old p new q h = tt
@@ -312,16 +312,16 @@ stepped x core was is later at e f c =
 
 -- what is done at once
 early_of : (core : ℕ) (d : Due) (old new : CoreState) (f : Fabric) → AloneOf d true old new → IsExactTick core d true old f new f
-early_of core (Does deed) old new f h = record { core_is = ap core_of h.1; fabric = refl }
+early_of core (Does effect) old new f h = record { core_is = ap core_of h.1; fabric = refl }
 early_of core (Waits port full) old new f h = absurd h
 early_of core Sleeps old new f h = absurd h
 early_of core Ends old new f h = absurd h
 early_of core (Stops cause) old new f h = absurd h
 
 due_of : (core : ℕ) (d : Due) (old new : CoreState) (f : Fabric) → AloneOf d false old new → IsExactTick core d false old f new f
-due_of core (Does deed) old new f h = record {
+due_of core (Does effect) old new f h = record {
   core_is = ap core_of h.3;
-  fabric = sym (ap (λ (a : Act). entered_some core old.acts (entry_of_act a) (entered_some core old.acts (entries_of_action deed.action) f)) h.1
+  fabric = sym (ap (λ (a : Act). entered_some core old.acts (entry_of_act a) (entered_some core old.acts (entries_of_action effect.action) f)) h.1
       ∙ ap (λ (o : Option Action). entered_some core old.acts (entries_of_action o) f) h.0);
 }
 due_of core (Waits port full) old new f h = absurd h
@@ -340,16 +340,16 @@ ticks_alone core shown f old new h calm =
 
 -- and the core is busy there
 
-not_idle : (v : View) (s : Shown) (o : Option Idle) → IsHoped s → idle_due (due v s) ≡ None → idle_view v s ≡ o → o ≡ None
+not_idle : (v : View) (s : Shown) (o : Option Idle) → IsAnnounced s → idle_due (due v s) ≡ None → idle_view v s ≡ o → o ≡ None
 not_idle v s None h n e = refl
 not_idle v s (Some why) h n e = let z : Some why ≡ None = sym (idle_lasts v s why h e) ∙ n in cc
 
 alone_busy : (d : Due) (early : Bool) (old new : CoreState) → AloneOf d early old new → idle_due d ≡ None
-alone_busy (Does deed) early old new h = refl
+alone_busy (Does effect) early old new h = refl
 alone_busy (Waits port full) early old new h = absurd h
 alone_busy Sleeps early old new h = absurd h
 alone_busy Ends early old new h = absurd h
 alone_busy (Stops cause) early old new h = absurd h
 
 pub busy_alone : {old new : CoreState} (core : ℕ) (f : Fabric) → TicksAlone old new → is_offered (shown f core) ≡ false → idle_view old.view (shown f core) ≡ None
-busy_alone {old = old} {new = new} core f h calm = not_idle old.view (shown f core) (idle_view old.view (shown f core)) (hoped f core) (alone_busy (due old.view (shown f core)) (is_early old) old new (h.does (shown f core) calm)) refl
+busy_alone {old = old} {new = new} core f h calm = not_idle old.view (shown f core) (idle_view old.view (shown f core)) (announced f core) (alone_busy (due old.view (shown f core)) (is_early old) old new (h.does (shown f core) calm)) refl

@@ -1,6 +1,6 @@
 -- The laws of journals, as a board has them and as a call keeps them.
 use Rattle.std.specs.Prelude.{◌≡◌, ℕ, ◌+◌, List, Some, slice_get}
-use Rattle.isa_step.specs.Deeds.{View}
+use Rattle.isa_step.specs.Effects.{View}
 use Rattle.board_file.specs.declared.board.BoardFile.{BoardFile}
 use Rattle.board_machine.specs.World.{CoreAt, Inputs, Reached, World}
 use Rattle.board_machine.specs.Runs.{KeepsRest, KeepsRuns}

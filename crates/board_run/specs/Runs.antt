@@ -1,6 +1,6 @@
 -- A run of a board from its beginning to its first end, and what is told of it.
 use Rattle.std.specs.Prelude.{◌≡◌, ℕ, List}
-use Rattle.isa_step.specs.Deeds.{View}
+use Rattle.isa_step.specs.Effects.{View}
 use Rattle.board_file.specs.declared.board.BoardFile.{BoardFile}
 use Rattle.board_machine.specs.declared.events.RunEnd.{RunEnd}
 use Rattle.board_machine.specs.Cycles.{RunsTo}

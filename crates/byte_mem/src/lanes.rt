@@ -46,7 +46,7 @@ pub(crate) fn write_lanes(word: &mut Word, at: usize, size: Size, order: Order, 
             word[at] = first;
             word[at + 1] = second;
         }
-        Size::Word => *word = word_bytes(order, value),
+        Size::Word => write_word(word, order, value),
     }
 }
 
@@ -60,12 +60,12 @@ fn half_bytes(order: Order, half: u16) -> [u8; 2]
     }
 }
 
-/// The bytes of a word, in the order of their addresses.
-fn word_bytes(order: Order, word: u32) -> Word
-    ensures { result ≡ encoded order Size.Word word }
+/// Writes a word. Each byte order has its own write, since the compiler makes one exchange of bytes of it then.
+fn write_word(word: &mut Word, order: Order, value: u32)
+    ensures { word.new ≡ encoded order Size.Word value }
 {
     match order {
-        Order::Big => word.to_be_bytes(),
-        Order::Little => word.to_le_bytes(),
+        Order::Big => *word = value.to_be_bytes(),
+        Order::Little => *word = value.to_le_bytes(),
     }
 }

@@ -11,7 +11,7 @@ use Rattle.op_table.specs.Table.{kind_of}
 use Rattle.isa_step.specs.Shown.{Shown}
 use Rattle.isa_step.specs.Due.{here_at, here_of, met}
 use Rattle.isa_step.specs.Resting.{idle_view}
-use Rattle.isa_step.specs.Wants.{is_link, operands_of}
+use Rattle.isa_step.specs.Requests.{is_link, operands_of}
 use Rattle.prepared_act.specs.declared.prepared.Prepared.{Prepared}
 use Rattle.prepared_act.specs.Prepared.{IsInner}
 use Rattle.prepared_act.specs.Retiring.{Suits, view_of}

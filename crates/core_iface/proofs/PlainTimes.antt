@@ -8,7 +8,7 @@ use Rattle.isa_step.specs.declared.acts.Act.TheVariants as acts
 use Rattle.isa_step.specs.declared.acts.Done.{Done}
 use Rattle.isa_step.specs.declared.acts.Here.{Here}
 use Rattle.isa_step.specs.declared.acts.Store.{Store}
-use Rattle.isa_step.specs.Wants.{late_at, latency_of}
+use Rattle.isa_step.specs.Requests.{late_at, latency_of}
 use Rattle.op_table.specs.declared.kinds.Latency.{Latency}
 use Rattle.op_table.specs.declared.kinds.Latency.TheVariants.{Single, Multiply, Load}
 use Rattle.op_table.specs.Table.{kind_of}

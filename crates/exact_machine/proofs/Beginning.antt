@@ -2,7 +2,7 @@
 use Rattle.std.proofs.Common.{◌≡◌, ℕ, zero, suc, ◌<◌, List, [], ◌∷◌, length, map, Some, refl, ap, subst, arith, slice_get}
 use Rattle.std.specs.Prelude.{is_some}
 use Rattle.std.proofs.lemmas.Option.{same_Some}
-use Rattle.isa_step.specs.Deeds.{View}
+use Rattle.isa_step.specs.Effects.{View}
 use Rattle.isa_step.specs.Due.{here_of}
 use Rattle.board_file.specs.declared.board.BoardFile.{BoardFile}
 use Rattle.board_file.specs.declared.board.CoreRow.{CoreRow}

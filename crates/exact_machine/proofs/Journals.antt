@@ -1,6 +1,6 @@
 -- The laws of journals, from the open machine.
 use Rattle.std.proofs.Common.{◌≡◌, ℕ, List, Some, ap, subst, slice_get}
-use Rattle.isa_step.specs.Deeds.{View}
+use Rattle.isa_step.specs.Effects.{View}
 use Rattle.board_file.specs.declared.board.BoardFile.{BoardFile}
 use Rattle.board_machine.specs.Fabric.{Fabric}
 use Rattle.board_machine.specs.World.{CoreAt, Inputs}

@@ -1,6 +1,7 @@
 pub mod Pasts
 pub mod Opening
 pub mod Beginning
+pub mod Starting
 pub mod Cycling
 pub mod Determined
 pub mod Profiles

@@ -13,7 +13,7 @@ use Rattle.op_table.specs.Table.{rows_of}
 use Rattle.mb_word.specs.Word.{field}
 use Rattle.mb_decode.specs.declared.instruction.Instr.{Instr}
 use Rattle.mb_decode.specs.Meaning.{NamesRegisters, bare, filled, read, the_only, with_part}
-use Rattle.isa_step.specs.Deeds.{View}
+use Rattle.isa_step.specs.Effects.{View}
 use Rattle.isa_step.specs.Due.{here_at, here_of, met}
 use Rattle.timing_law.specs.Passing.{instr_of}
 use Rattle.board_machine.proofs.Lists.{and_left, and_right}

@@ -4,7 +4,7 @@ use Rattle.std.specs.Prelude.{is_some}
 use Rattle.std.proofs.lemmas.List.{length-map}
 use Rattle.std.proofs.lemmas.Option.{same_Some}
 use Rattle.std.specs.List.{AllByRecursion}
-use Rattle.isa_step.specs.Deeds.{Deed, Due, Does, Waits, Sleeps, Ends, Stops}
+use Rattle.isa_step.specs.Effects.{Effect, Due, Does, Waits, Sleeps, Ends, Stops}
 use Rattle.isa_step.specs.Due.{due, here_of}
 use Rattle.timing_law.specs.Passing.{instr_of, jump_of, past_after}
 use Rattle.board_machine.specs.declared.events.Event.{Event}
@@ -55,11 +55,11 @@ record OpenTick (core : ℕ) (d : Due) (held : Bool) (x : ExactCore) (s : CoreAt
   may : TickMay core d s f is (fabric_after core x.acts d held f)
   is_open : IsOpenCore (core_after d held x) is
 
-act_open : (deed : Deed) (x : ExactCore) (s : CoreAt) → IsOpenCore x s → IsOpenCore (acted deed x) (with_slack 63 (acted deed x))
-act_open deed x s h =
-    let past = past_after (here_of x.view) deed.done deed.arch.pc x.ticks x.past in
-    let near = passed_near deed.done.act (instr_of (here_of x.view)) (jump_of deed.done deed.arch.pc) x.past x.ticks (later x.past (x.ticks + 4) (x.ticks + 5) h.near (omega arith)) in
-    let y = acted deed x in
+act_open : (effect : Effect) (x : ExactCore) (s : CoreAt) → IsOpenCore x s → IsOpenCore (acted effect x) (with_slack 63 (acted effect x))
+act_open effect x s h =
+    let past = past_after (here_of x.view) effect.done effect.arch.pc x.ticks x.past in
+    let near = passed_near effect.done.act (instr_of (here_of x.view)) (jump_of effect.done effect.arch.pc) x.past x.ticks (later x.past (x.ticks + 4) (x.ticks + 5) h.near (omega arith)) in
+    let y = acted effect x in
     let soon = due_near past (instr_of (here_of y.view)) (is_some y.view.arch.slot) (x.ticks + 5) near in
     record {
       core = refl;
@@ -85,12 +85,12 @@ idle_open x s h = record {
 }
 
 tick_at : (core : ℕ) (d : Due) (held : Bool) (x : ExactCore) (n : ℕ) (f : Fabric) → (held ≡ true → x.ticks < due_of x) → IsOpenCore x (with_slack n x) → OpenTick core d held x (with_slack n x) f
-tick_at core (Does deed) false x n f early h = record {
-  is = with_slack 63 (acted deed x);
+tick_at core (Does effect) false x n f early h = record {
+  is = with_slack 63 (acted effect x);
   may = inl (record { slack = omega arith; state = refl; fabric = refl });
-  is_open = act_open deed x (with_slack n x) h;
+  is_open = act_open effect x (with_slack n x) h;
 }
-tick_at core (Does deed) true x n f early h = record {
+tick_at core (Does effect) true x n f early h = record {
   is = with_slack (n - 1) (passed x);
   may = inr (record { slack = (let e = early refl in omega (arith, e, h.enough)); state = refl; fabric = refl });
   is_open = fill_open x (with_slack n x) (early refl) h;

@@ -2,7 +2,7 @@
 use Rattle.std.proofs.Common.{◌≡◌, ℕ, zero, suc, ◌+◌, ◌<◌, ◌==◌, nat_lt, Bool, true, false, if◌then◌else◌, List, [], ◌∷◌, Option, Some, None, refl, ap, sym, ◌∙◌, subst, arith, slice_get, length, max}
 use Rattle.std.specs.Prelude.{is_some}
 use Rattle.std.proofs.lemmas.Option.{same_Some, slice_get_within}
-use Rattle.isa_step.specs.Deeds.{View, Due, Does, Waits, Sleeps, Ends, Stops}
+use Rattle.isa_step.specs.Effects.{View, Due, Does, Waits, Sleeps, Ends, Stops}
 use Rattle.isa_step.specs.Due.{due, here_of}
 use Rattle.isa_step.specs.Shown.{Shown}
 use Rattle.core_regs.specs.State.{bare}
@@ -37,8 +37,8 @@ one_more Sleeping p = omega arith
 one_more Resting p = omega arith
 
 tick_more : (d : Due) (held : Bool) (s : ExactCore) → (core_after d held s).ticks ≡ s.ticks + 1
-tick_more (Does deed) false s = refl
-tick_more (Does deed) true s = refl
+tick_more (Does effect) false s = refl
+tick_more (Does effect) true s = refl
 tick_more (Waits port full) held s = refl
 tick_more Sleeps held s = refl
 tick_more Ends held s = refl
@@ -53,8 +53,8 @@ held_no_act false false false true p = refl
 held_no_act false false false false p = refl
 
 act_by : (d : Due) (held quiet : Bool) (why : Spent) (s : ExactCore) (p : Profile) → (counted why p).acted ≡ p.acted → (counted (spent_by d held quiet why) p).acted + s.acts ≡ p.acted + (core_after d held s).acts
-act_by (Does deed) false quiet why s p e = omega arith
-act_by (Does deed) true quiet why s p e = ap (λ n. n + s.acts) e
+act_by (Does effect) false quiet why s p e = omega arith
+act_by (Does effect) true quiet why s p e = ap (λ n. n + s.acts) e
 act_by (Waits port full) false quiet why s p e = refl
 act_by (Waits port full) true quiet why s p e = ap (λ n. n + s.acts) e
 act_by Sleeps held false why s p e = refl

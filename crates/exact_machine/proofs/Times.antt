@@ -7,7 +7,7 @@ use Rattle.mb_decode.specs.declared.instruction.Instr.{Instr}
 use Rattle.mb_decode.specs.Meaning.{NamesRegisters}
 use Rattle.isa_step.specs.declared.acts.Act.{Act}
 use Rattle.isa_step.specs.declared.acts.Act.TheVariants as acts
-use Rattle.isa_step.specs.Deeds.{Due, Does, Waits, Sleeps, Ends, Stops, View}
+use Rattle.isa_step.specs.Effects.{Due, Does, Waits, Sleeps, Ends, Stops, View}
 use Rattle.core_regs.specs.State.{bare}
 use Rattle.isa_step.specs.Due.{due, here_of, take_due}
 use Rattle.board_file.specs.declared.board.BoardFile.{BoardFile}
@@ -43,8 +43,8 @@ moves_as (acts.Raised esr) i jump at p = refl
 moves_as (acts.Stopped cause) i jump at p = refl
 
 tick_moves : (d : Due) (held : Bool) (s : ExactCore) → (core_after d held s).past ≡ moved_all (act_by d held s) s.past
-tick_moves (Does deed) false s = moves_as deed.done.act (instr_of (here_of s.view)) (jump_of deed.done deed.arch.pc) s.ticks s.past
-tick_moves (Does deed) true s = refl
+tick_moves (Does effect) false s = moves_as effect.done.act (instr_of (here_of s.view)) (jump_of effect.done effect.arch.pc) s.ticks s.past
+tick_moves (Does effect) true s = refl
 tick_moves (Waits port full) held s = refl
 tick_moves Sleeps held s = refl
 tick_moves Ends held s = refl
@@ -70,8 +70,8 @@ rises_as (acts.Raised esr) i jump at rest names h = (omega arith, tt, h)
 rises_as (acts.Stopped cause) i jump at rest names h = lower at rest h
 
 tick_rises : (d : Due) (held : Bool) (s : ExactCore) (rest : List Timed) → IsRising (core_after d held s).ticks rest → IsRising s.ticks (act_by d held s ++ rest)
-tick_rises (Does deed) false s rest h = rises_as deed.done.act (instr_of (here_of s.view)) (jump_of deed.done deed.arch.pc) s.ticks rest (here_names s.view) h
-tick_rises (Does deed) true s rest h = lower s.ticks rest h
+tick_rises (Does effect) false s rest h = rises_as effect.done.act (instr_of (here_of s.view)) (jump_of effect.done effect.arch.pc) s.ticks rest (here_names s.view) h
+tick_rises (Does effect) true s rest h = lower s.ticks rest h
 tick_rises (Waits port full) held s rest h = lower s.ticks rest h
 tick_rises Sleeps held s rest h = lower s.ticks rest h
 tick_rises Ends held s rest h = lower s.ticks rest h

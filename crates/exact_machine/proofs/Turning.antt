@@ -4,7 +4,7 @@ use Rattle.std.proofs.lemmas.Bool.{cases_eq}
 use Rattle.std.proofs.lemmas.Bool.Decides.{nat_tests}
 use Rattle.std.proofs.lemmas.List.{length-map}
 use Rattle.std.proofs.lemmas.Option.{same_Some, slice_get_within}
-use Rattle.isa_step.specs.Deeds.{Due, Does, Waits, Sleeps, Ends, Stops}
+use Rattle.isa_step.specs.Effects.{Due, Does, Waits, Sleeps, Ends, Stops}
 use Rattle.isa_step.specs.Due.{due}
 use Rattle.board_file.specs.declared.board.LinkRow.{LinkRow}
 use Rattle.board_machine.specs.declared.events.Event.{Event}
@@ -47,8 +47,8 @@ record FreeTick (core : ℕ) (d : Due) (held : Bool) (x : ExactCore) (f : Fabric
   may : TickMay core d (with_slack 1 x) f (with_slack slack (core_after d held x)) (fabric_after core x.acts d held f)
 
 free_tick : (core : ℕ) (d : Due) (held : Bool) (x : ExactCore) (f : Fabric) → FreeTick core d held x f
-free_tick core (Does deed) false x f = record { slack = 0; may = inl (record { slack = omega arith; state = refl; fabric = refl }) }
-free_tick core (Does deed) true x f = record { slack = 0; may = inr (record { slack = omega arith; state = refl; fabric = refl }) }
+free_tick core (Does effect) false x f = record { slack = 0; may = inl (record { slack = omega arith; state = refl; fabric = refl }) }
+free_tick core (Does effect) true x f = record { slack = 0; may = inr (record { slack = omega arith; state = refl; fabric = refl }) }
 free_tick core (Waits port full) false x f = record { slack = 1; may = inl (record { state = refl; fabric = refl }) }
 free_tick core (Waits port full) true x f = record { slack = 0; may = inr (record { slack = omega arith; state = refl; fabric = refl }) }
 free_tick core Sleeps held x f = record { slack = 1; may = record { state = refl; fabric = refl } }

@@ -1,7 +1,7 @@
 -- What is proved of the exact machine.
 use Rattle.std.specs.Prelude.{◌≡◌, ℕ, ◌+◌, ◌<◌, ◌&&◌, nat_lt, true, List, ◌++◌, is_none, is_some, length, None, Some, slice_get}
 use Rattle.std.specs.List.{AllByRecursion}
-use Rattle.isa_step.specs.Deeds.{View}
+use Rattle.isa_step.specs.Effects.{View}
 use Rattle.core_regs.specs.State.{bare}
 use Rattle.isa_step.specs.Due.{here_of, take_due}
 use Rattle.isa_step.specs.Shown.{Shown}

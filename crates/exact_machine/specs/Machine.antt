@@ -1,6 +1,6 @@
 -- The exact machine: the board machine with a past for each core, which says when the core acts. Nothing in it is free.
 use Rattle.std.specs.Prelude.{ℕ, ◌+◌, Bool, false, List, [], ◌∷◌, length, map, Option, Some, None, slice_get, slice_set}
-use Rattle.isa_step.specs.Deeds.{View, Deed, Due, Does, Waits, after}
+use Rattle.isa_step.specs.Effects.{View, Effect, Due, Does, Waits, after}
 use Rattle.isa_step.specs.Due.{due, here_of}
 use Rattle.isa_step.specs.Shown.{Shown}
 use Rattle.timing_law.specs.declared.past.Past.{Past}
@@ -35,22 +35,22 @@ abbrev pub passed : ExactCore → ExactCore
 passed s = record s { ticks = s.ticks + 1 }
 
 -- an act is done, and moves the past
-abbrev pub acted : Deed → ExactCore → ExactCore
-acted deed s = record {
-  view = after s.view deed;
+abbrev pub acted : Effect → ExactCore → ExactCore
+acted effect s = record {
+  view = after s.view effect;
   acts = s.acts + 1;
   ticks = s.ticks + 1;
-  past = past_after (here_of s.view) deed.done deed.arch.pc s.ticks s.past;
+  past = past_after (here_of s.view) effect.done effect.arch.pc s.ticks s.past;
 }
 
 -- the core after a tick, by what is due and whether it is held back
 abbrev pub core_after : Due → Bool → ExactCore → ExactCore
-core_after (Does deed) false s = acted deed s
+core_after (Does effect) false s = acted effect s
 core_after _ _ s = passed s
 
 -- what the tick of a core that has done so many acts leaves of the fabric
 abbrev pub fabric_after : ℕ → ℕ → Due → Bool → Fabric → Fabric
-fabric_after core act (Does deed) false f = act_leaves core act deed f
+fabric_after core act (Does effect) false f = act_leaves core act effect f
 fabric_after core act (Waits port full) false f = waited core act (record { port = port; full = full }) f
 fabric_after core act _ _ f = f
 

@@ -2,7 +2,7 @@
 use Rattle.std.specs.Prelude.{ℕ, ◌+◌, ◌==◌, nat_lt, is_some, Bool, true, false, if◌then◌else◌, List, [], ◌∷◌, Option, Some, None, slice_get}
 use Rattle.core_regs.specs.State.{bare}
 use Rattle.mb_decode.specs.declared.instruction.Instr.{Instr}
-use Rattle.isa_step.specs.Deeds.{Due, Does, Waits, Sleeps, Ends, Stops}
+use Rattle.isa_step.specs.Effects.{Due, Does, Waits, Sleeps, Ends, Stops}
 use Rattle.isa_step.specs.Due.{due, here_of}
 use Rattle.isa_step.specs.Resting.{is_quiet}
 use Rattle.isa_step.specs.Shown.{Shown}
@@ -73,8 +73,8 @@ reason s = reason_by s.past (instr_of (here_of s.view)) (is_some s.view.arch.slo
 
 -- by what is due, whether it is held back, and whether no take can come
 abbrev pub spent_by : Due → Bool → Bool → Spent → Spent
-spent_by (Does deed) false quiet why = Acting
-spent_by (Does deed) true quiet why = why
+spent_by (Does effect) false quiet why = Acting
+spent_by (Does effect) true quiet why = why
 spent_by (Waits port full) false quiet why = Waiting
 spent_by (Waits port full) true quiet why = why
 spent_by Sleeps held false why = Sleeping

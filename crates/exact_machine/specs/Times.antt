@@ -3,7 +3,7 @@ use Rattle.std.specs.Prelude.{ℕ, ◌==◌, Bool, false, if◌then◌else◌, L
 use Rattle.mb_decode.specs.declared.instruction.Instr.{Instr}
 use Rattle.isa_step.specs.declared.acts.Act.{Act}
 use Rattle.isa_step.specs.declared.acts.Act.TheVariants as acts
-use Rattle.isa_step.specs.Deeds.{Due, Does}
+use Rattle.isa_step.specs.Effects.{Due, Does}
 use Rattle.isa_step.specs.Due.{due, here_of}
 use Rattle.timing_law.specs.declared.pipe.Jump.{Jump}
 use Rattle.timing_law.specs.DueTick.{Passed, Retired, Timed, Turned}
@@ -28,7 +28,7 @@ at_tick tick passed = record { tick = tick; passed = passed }
 
 -- the act of a tick, if there is one
 abbrev pub act_by : Due → Bool → ExactCore → List Timed
-act_by (Does deed) false s = map (at_tick s.ticks) (passed_as deed.done.act (instr_of (here_of s.view)) (jump_of deed.done deed.arch.pc))
+act_by (Does effect) false s = map (at_tick s.ticks) (passed_as effect.done.act (instr_of (here_of s.view)) (jump_of effect.done effect.arch.pc))
 act_by _ _ s = []
 
 abbrev pub act_at : ExactWorld → ℕ → Option ExactCore → List Timed

@@ -1,25 +1,27 @@
 //! The loops over streams: reading one to its end, and handing all bytes on to one.
-ghost use Rattle.std.specs.Prelude.{OnErr, OnOk};
+ghost use Rattle.std.specs.Prelude.{OnErr, OnOk, ◌+◌};
 ghost use Rattle.std.specs.Io.{ReadsAtMost, WritesAtMost};
 ghost use Rattle.std.specs.Io.KnownBytes.{Appends, ReadConsumes, WriteAppends};
-ghost use Rattle.host_io.specs.Streams.{AppendsPrefix, ReadsWhole};
+ghost use Rattle.host_io.specs.Streams.{AppendsPrefix, ReadsWhole, TakesAtMost};
 
 use crate::{Blob, LoadFault, Source};
 use std::alloc::Global;
 use std::io::{self, ErrorKind, Read, Write};
 
 /// How many bytes are read at a time.
-const CHUNK: usize = 4096;
+const CHUNK: usize = 65_536;
 
-/// Reads a source to its end, where it has no more than `limit` bytes left. Of a longer one it reads at most one chunk
-/// past the limit.
+/// Reads a source to its end, where it has no more than `limit` bytes left. Of a longer one it reads one byte past the
+/// limit and no more, so that an endless source is refused too.
 pub fn read_whole<S: Source>(source: &mut S, alloc: Global, limit: usize) -> Result<Blob, LoadFault>
-    ensures { ReadsWhole (S.state source.old) (S.state source.new) limit result }
+    ensures answer { ReadsWhole (S.state source.old) (S.state source.new) limit result }
+    ensures taken { TakesAtMost (limit + 1) (S.state source.old).left (S.state source.new).left }
 {
     let mut bytes = Vec::new(alloc);
     let mut chunk = [0; CHUNK];
     while bytes.len() <= limit {
-        let count = source.read(&mut chunk)?;
+        let room = (limit - bytes.len()).min(CHUNK - 1) + 1;
+        let count = source.read(&mut chunk[..room])?;
         if count == 0 {
             return Ok(Blob::from_vec(bytes));
         }

@@ -18,17 +18,17 @@ use Rattle.isa_step.specs.declared.acts.Action.{Action}
 use Rattle.isa_step.specs.declared.acts.Action.TheVariants.{Got, Sent, Seen, Room, Missed, Read, ReadRefused, Wrote, WriteRefused}
 use Rattle.isa_step.specs.declared.acts.Here.{Here}
 use Rattle.isa_step.specs.declared.acts.Operands.{Operands}
-use Rattle.isa_step.specs.declared.supplying.Given.{Given}
+use Rattle.isa_step.specs.declared.operands.Given.{Given}
 use Rattle.op_table.specs.declared.kinds.Kind.{Kind}
 use Rattle.op_table.specs.declared.kinds.Kind.TheVariants.{Divide, BranchIf, Barrier, Load, Store, Get, Put}
 use Rattle.op_table.specs.Table.{kind_of}
-use Rattle.isa_step.specs.Deeds.{Deed, Want, Goes, Homes, Gets, Puts, Reads, Writes, faults, raises, stops}
+use Rattle.isa_step.specs.Effects.{Effect, Request, Goes, HaltLoop, Gets, Puts, Reads, Writes, faults, raises, stops}
 use Rattle.isa_step.specs.Arithmetic.{divided}
 use Rattle.isa_step.specs.Branches.{branches_if, holds}
 use Rattle.isa_step.specs.Special.{is_sleep}
 use Rattle.isa_step.specs.Loads.{address, is_aligned, keeps, loads, loads_at, loads_from, loads_past, lowered, no_data, stores, stores_at, stores_past, unaligned}
 use Rattle.isa_step.specs.Links.{gets_from, is_nonblocking, is_raised, is_test, port_of, puts_to}
-use Rattle.isa_step.specs.Wants.{deed_of, effect, given, wants, wants_instr, wants_kind, is_banned, is_end, belongs_into_slot, illegal, comes_home}
+use Rattle.isa_step.specs.Requests.{effect_of, request_of, given, requested, requested_instr, requested_kind, is_banned, is_end, belongs_into_slot, illegal, halt_loop}
 
 -- an action that holds this item, or that shows room
 abbrev pub HasItem : Item → Option Action → Type 0
@@ -45,24 +45,24 @@ abbrev pub MissedBy : Option Action → Type 0
 MissedBy (Some (Missed port full)) = Unit {0}
 MissedBy _ = ⊥
 
-abbrev pub HasMissed : Option Deed → Type 0
+abbrev pub HasMissed : Option Effect → Type 0
 HasMissed None = Unit {0}
 HasMissed (Some d) = MissedBy d.action
 
--- a want whose deeds do the actions of their answers
-abbrev pub IsFit : Want → Type 0
-IsFit (Goes deed) = deed.action ≡ None
-IsFit (Homes deed) = deed.action ≡ None
+-- a want whose effects do the actions of their answers
+abbrev pub IsFit : Request → Type 0
+IsFit (Goes effect) = effect.action ≡ None
+IsFit (HaltLoop effect) = effect.action ≡ None
 IsFit (Gets port item empty) = ((x : Item) → HasItem x (item x).action) × HasMissed empty
 IsFit (Puts port room full) = HasRoom room.action × HasMissed full
 IsFit (Reads addr answer) = ((w : ℕ) → (answer (Some w)).action ≡ Some (Read addr w)) × ((answer None).action ≡ Some (ReadRefused addr))
 IsFit (Writes addr word answer) = ((answer true).action ≡ Some (Wrote addr word)) × ((answer false).action ≡ Some (WriteRefused addr word))
 
-either : (b : Bool) (x y : Want) → IsFit x → IsFit y → IsFit (if b then x else y)
+either : (b : Bool) (x y : Request) → IsFit x → IsFit y → IsFit (if b then x else y)
 either true x y p q = p
 either false x y p q = q
 
-act_of : (b : Bool) (x y : Deed) (o : Option Action) → x.action ≡ o → y.action ≡ o → (if b then x else y).action ≡ o
+act_of : (b : Bool) (x y : Effect) (o : Option Action) → x.action ≡ o → y.action ≡ o → (if b then x else y).action ≡ o
 act_of true x y o p q = p
 act_of false x y o p q = q
 
@@ -78,8 +78,8 @@ branch_quiet g a delayed true = refl
 branch_quiet g a delayed false = refl
 
 -- an instruction that asks nothing does no action
-computes_quietly : (kind : Kind) (g : Given) (a : Arch) → (deed_of kind g a).action ≡ None
-unfolding deed_of
+computes_quietly : (kind : Kind) (g : Given) (a : Arch) → (effect_of kind g a).action ≡ None
+unfolding effect_of
 computes_quietly (Divide signed) g a = divided_quiet g a (quotient_of g.b g.a signed) (fault_of g.b g.a signed)
 computes_quietly (BranchIf condition delayed) g a = branch_quiet g a delayed (holds condition g.a)
 computes_quietly Barrier g a = act_of (is_sleep g.imm) _ _ None refl refl
@@ -122,43 +122,43 @@ room_kept : (b : Bool) (port : ℕ) (x : Item) → HasRoom (Some (if b then Room
 room_kept true port x = tt
 room_kept false port x = tt
 
-deed_item : (b : Bool) (x y : Deed) (i : Item) → HasItem i x.action → HasItem i y.action → HasItem i (if b then x else y).action
-deed_item true x y i p q = p
-deed_item false x y i p q = q
+effect_item : (b : Bool) (x y : Effect) (i : Item) → HasItem i x.action → HasItem i y.action → HasItem i (if b then x else y).action
+effect_item true x y i p q = p
+effect_item false x y i p q = q
 
-missed_fit : (b : Bool) (d : Deed) → MissedBy d.action → HasMissed (if b then Some d else None)
+missed_fit : (b : Bool) (d : Effect) → MissedBy d.action → HasMissed (if b then Some d else None)
 missed_fit true d p = p
 missed_fit false d p = tt
 
 gets_fit : (g : Given) (a : Arch) (port : ℕ) → IsFit (gets_from g a port)
 gets_fit g a port = (
-  λ x. deed_item (is_raised g.flags x a) _ _ x (item_kept (is_test g.flags) port x) (item_kept (is_test g.flags) port x),
+  λ x. effect_item (is_raised g.flags x a) _ _ x (item_kept (is_test g.flags) port x) (item_kept (is_test g.flags) port x),
   missed_fit (is_nonblocking g.flags) _ tt,
 )
 
 puts_fit : (g : Given) (a : Arch) (port : ℕ) → IsFit (puts_to g a port)
 puts_fit g a port = (room_kept (is_test g.flags) port _, missed_fit (is_nonblocking g.flags) _ tt)
 
-effect_fits : (kind : Kind) (g : Given) (a : Arch) (m : List ℕ) → IsFit (effect kind g a m)
-unfolding effect
-effect_fits (Load size) g a m = loads_fit g a m size
-effect_fits (Store size) g a m = stores_fit g a m size
-effect_fits (Get dynamic) g a m = gets_fit g a (port_of g dynamic)
-effect_fits (Put dynamic) g a m = puts_fit g a (port_of g dynamic)
-effect_fits kind g a m = computes_quietly kind g a
+request_of_fits : (kind : Kind) (g : Given) (a : Arch) (m : List ℕ) → IsFit (request_of kind g a m)
+unfolding request_of
+request_of_fits (Load size) g a m = loads_fit g a m size
+request_of_fits (Store size) g a m = stores_fit g a m size
+request_of_fits (Get dynamic) g a m = gets_fit g a (port_of g dynamic)
+request_of_fits (Put dynamic) g a m = puts_fit g a (port_of g dynamic)
+request_of_fits kind g a m = computes_quietly kind g a
 
-kind_fits : (kind : Kind) (i : Instr) (word : ℕ) (o : Operands) (a : Arch) (m : List ℕ) → IsFit (wants_kind kind i word o a m)
+kind_fits : (kind : Kind) (i : Instr) (word : ℕ) (o : Operands) (a : Arch) (m : List ℕ) → IsFit (requested_kind kind i word o a m)
 kind_fits kind i word o a m =
-    let placed = if is_some a.slot && not (belongs_into_slot kind) then Goes (stops a (stop.Slot word) None) else effect kind (given i o a) a m in
+    let placed = if is_some a.slot && not (belongs_into_slot kind) then Goes (stops a (stop.Slot word) None) else request_of kind (given i o a) a m in
     either (is_banned i kind a.network) (illegal a word) placed (fault_action a IllegalWord (stop.Illegal word) None)
-    (either (is_some a.slot && not (belongs_into_slot kind)) (Goes (stops a (stop.Slot word) None)) (effect kind (given i o a) a m) refl (effect_fits kind (given i o a) a m))
+    (either (is_some a.slot && not (belongs_into_slot kind)) (Goes (stops a (stop.Slot word) None)) (request_of kind (given i o a) a m) refl (request_of_fits kind (given i o a) a m))
 
-instr_fits : (i : Option Instr) (word : ℕ) (o : Operands) (a : Arch) (m : List ℕ) → IsFit (wants_instr i word o a m)
+instr_fits : (i : Option Instr) (word : ℕ) (o : Operands) (a : Arch) (m : List ℕ) → IsFit (requested_instr i word o a m)
 instr_fits None word o a m = fault_action a IllegalWord (stop.Illegal word) None
 instr_fits (Some i) word o a m = kind_fits (kind_of i.op) i word o a m
 
-pub wants_fit : (here : Option Here) (o : Operands) (a : Arch) (m : List ℕ) → IsFit (wants here o a m)
-unfolding wants
-wants_fit None o a m = fault_action a InstrBus (stop.InstrBus a.pc) None
-wants_fit (Some here) o a m =
-    either (is_end here.word a) (Homes (comes_home a)) (wants_instr here.instr here.word o a m) refl (instr_fits here.instr here.word o a m)
+pub requested_fit : (here : Option Here) (o : Operands) (a : Arch) (m : List ℕ) → IsFit (requested here o a m)
+unfolding requested
+requested_fit None o a m = fault_action a InstrBus (stop.InstrBus a.pc) None
+requested_fit (Some here) o a m =
+    either (is_end here.word a) (HaltLoop (halt_loop a)) (requested_instr here.instr here.word o a m) refl (instr_fits here.instr here.word o a m)

@@ -22,7 +22,7 @@ no_breaks = record { maskable = false; nonmaskable = false }
 abbrev pub no_hopes : Hopes
 no_hopes = record { interrupt = false; maskable = false; nonmaskable = false }
 
--- what has come was hoped for
+-- what has come was announced for
 abbrev pub hopes_of : BenchPorts → Hopes
 hopes_of b = record {
   interrupt = b.line || b.hopes.interrupt;

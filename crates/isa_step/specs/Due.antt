@@ -1,5 +1,5 @@
--- The one act that is due: the first of nine rules that applies decides. They stand at the head of stepping.rt; those that
--- the word at pc decides, from the fourth on, are in Wants.
+-- The one act that is due: the first of nine rules that applies decides. They stand at the head of step.rt; those that
+-- the word at pc decides, from the fourth on, are in Requests.
 use Rattle.std.specs.Prelude.{ℕ, ◌%◌, ◌==◌, ◌&&◌, ◌||◌, not, Bool, true, false, List, Option, Some, None, if◌then◌else◌}
 use Rattle.axi_link.specs.declared.item.Item.{Item}
 use Rattle.core_regs.specs.declared.registers.Arch.{Arch}
@@ -18,8 +18,8 @@ use Rattle.isa_step.specs.declared.acts.Hopes.{Hopes}
 use Rattle.isa_step.specs.declared.acts.Here.{Here}
 use Rattle.isa_step.specs.declared.acts.Operands.{Operands}
 use Rattle.isa_step.specs.Shown.{Shown}
-use Rattle.isa_step.specs.Deeds.{View, Deed, Due, Does, Waits, Sleeps, Ends, Stops, Want, Goes, Homes, Gets, Puts, Reads, Writes}
-use Rattle.isa_step.specs.Wants.{wants, is_atomic_here, operands_of}
+use Rattle.isa_step.specs.Effects.{View, Effect, Due, Does, Waits, Sleeps, Ends, Stops, Request, Goes, HaltLoop, Gets, Puts, Reads, Writes}
+use Rattle.isa_step.specs.Requests.{requested, is_atomic_here, operands_of}
 
 -- a break is in progress or an exception is
 abbrev pub is_masked : Arch → Bool
@@ -47,7 +47,7 @@ unfoldable pub take_due : Option Here → Arch → Shown → Option Take
 take_due here a s = take_by a s (may_take a (is_atomic_here here))
 
 -- the act of a take
-abbrev pub takes : Arch → Take → Deed
+abbrev pub takes : Arch → Take → Effect
 takes a t = record {
   arch = diverted a t;
   action = Some (Took t);
@@ -55,23 +55,23 @@ takes a t = record {
 }
 
 -- rule 8: an access that finds its port empty or full misses, or waits where it cannot
-abbrev pub or_waits : ℕ → Bool → Option Deed → Due
+abbrev pub or_waits : ℕ → Bool → Option Effect → Due
 or_waits port full (Some missed) = Does missed
 or_waits port full None = Waits port full
 
 -- the answer of a port that has an item or none, and of one that has room or none
-abbrev pub by_item : ℕ → (Item → Deed) → Option Deed → Option Item → Due
-by_item port deed empty (Some item) = Does (deed item)
-by_item port deed empty None = or_waits port false empty
+abbrev pub by_item : ℕ → (Item → Effect) → Option Effect → Option Item → Due
+by_item port effect empty (Some item) = Does (effect item)
+by_item port effect empty None = or_waits port false empty
 
-abbrev pub by_room : ℕ → Deed → Option Deed → Bool → Due
-by_room port deed full true = Does deed
-by_room port deed full false = or_waits port true full
+abbrev pub by_room : ℕ → Effect → Option Effect → Bool → Due
+by_room port effect full true = Does effect
+by_room port effect full false = or_waits port true full
 
 -- what the answer of the outside leaves; by rule 5 the core has ended at the branch to itself where no take can come any more
-abbrev pub reply : Arch → Want → Shown → Due
-reply a (Goes deed) s = Does deed
-reply a (Homes deed) s = if is_closed a s.hopes then Ends else Does deed
+abbrev pub reply : Arch → Request → Shown → Due
+reply a (Goes effect) s = Does effect
+reply a (HaltLoop effect) s = if is_closed a s.hopes then Ends else Does effect
 reply a (Gets port item empty) s = by_item port item empty (s.first port)
 reply a (Puts port room full) s = by_room port room full (s.room port)
 reply a (Reads addr answer) s = Does (answer (s.bus_word addr))
@@ -80,7 +80,7 @@ reply a (Writes addr word answer) s = Does (answer (s.bus_takes addr word))
 -- rule 3: a sleeping core does nothing
 abbrev pub awake : Option Here → Operands → Arch → List ℕ → Shown → Bool → Due
 awake here o a m s true = Sleeps
-awake here o a m s false = reply a (wants here o a m) s
+awake here o a m s false = reply a (requested here o a m) s
 
 -- rule 1: a stopped core does nothing; rule 2: a take comes before all else
 abbrev pub due_by : Option Here → Operands → Arch → List ℕ → Shown → Option Take → Option StopCause → Due

@@ -1,12 +1,12 @@
 pub mod Shown
-pub mod Deeds
+pub mod Effects
 pub mod Actions
 pub mod Arithmetic
 pub mod Special
 pub mod Branches
 pub mod Loads
 pub mod Links
-pub mod Wants
+pub mod Requests
 pub mod Due
 pub mod Performing
 pub mod Resting

@@ -8,8 +8,8 @@ use Rattle.delay_imm.specs.Slots.{advanced}
 use Rattle.trap_entry.specs.declared.cause.Cause.TheVariants.{Stream}
 use Rattle.isa_step.specs.declared.acts.Action.{Action}
 use Rattle.isa_step.specs.declared.acts.Action.TheVariants.{Got, Sent, Seen, Room, Missed}
-use Rattle.isa_step.specs.declared.supplying.Given.{Given}
-use Rattle.isa_step.specs.Deeds.{Deed, Want, Gets, Puts, retires, raises}
+use Rattle.isa_step.specs.declared.operands.Given.{Given}
+use Rattle.isa_step.specs.Effects.{Effect, Request, Gets, Puts, retires, raises}
 
 -- whether a link instruction has a letter: n is 16, c 8, t 4, a 2 and e 1
 unfoldable pub has_letter : ℕ → ℕ → Bool
@@ -43,7 +43,7 @@ abbrev pub passed : Given → Arch → Arch
 passed g a = advanced a (is_atomic g.flags)
 
 -- an access that does not wait found its port empty or full
-abbrev pub misses : Given → Arch → ℕ → Bool → Option Deed
+abbrev pub misses : Given → Arch → ℕ → Bool → Option Effect
 misses g a port full =
     if is_nonblocking g.flags then Some (retires g (with_flag (passed g a) msr_c true) (Some (Missed port full)) None) else None
 
@@ -63,17 +63,17 @@ abbrev pub is_raised : ℕ → Item → Arch → Bool
 is_raised flags item a = not (is_expected flags item) && has_exception flags && exceptions_on a
 
 -- rD = the item's word
-abbrev pub receives : Given → Arch → ℕ → Item → Deed
+abbrev pub receives : Given → Arch → ℕ → Item → Effect
 receives g a port item =
     if is_raised g.flags item a
     then raises (checked g.flags item (marked g.flags false a)) (Stream port item.word) (Some (got_or_seen g.flags port item))
     else retires g (checked g.flags item (marked g.flags false (passed g a))) (Some (got_or_seen g.flags port item)) (write_of g.rd item.word)
 
-abbrev pub gets_from : Given → Arch → ℕ → Want
+abbrev pub gets_from : Given → Arch → ℕ → Request
 gets_from g a port = Gets port (receives g a port) (misses g a port false)
 
 -- get, getd
-abbrev pub gets : Given → Arch → Bool → Want
+abbrev pub gets : Given → Arch → Bool → Request
 gets g a dynamic = gets_from g a (port_of g dynamic)
 
 -- a is sent with the control bit of the form
@@ -83,12 +83,12 @@ sent g = record { word = g.a; control = has_control g.flags }
 abbrev pub sent_or_room : Given → ℕ → Action
 sent_or_room g port = if is_test g.flags then Room port else Sent port (sent g)
 
-abbrev pub sends : Given → Arch → ℕ → Deed
+abbrev pub sends : Given → Arch → ℕ → Effect
 sends g a port = retires g (marked g.flags false (passed g a)) (Some (sent_or_room g port)) None
 
-abbrev pub puts_to : Given → Arch → ℕ → Want
+abbrev pub puts_to : Given → Arch → ℕ → Request
 puts_to g a port = Puts port (sends g a port) (misses g a port true)
 
 -- put, putd
-abbrev pub puts : Given → Arch → Bool → Want
+abbrev pub puts : Given → Arch → Bool → Request
 puts g a dynamic = puts_to g a (port_of g dynamic)

@@ -8,16 +8,16 @@ use Rattle.isa_step.specs.declared.acts.Outcome.{Outcome}
 use Rattle.isa_step.specs.declared.acts.Outcome.TheVariants as outcome
 use Rattle.isa_step.specs.declared.acts.Step.{Step}
 use Rattle.isa_step.specs.declared.acts.Step.TheVariants as step
-use Rattle.isa_step.specs.declared.supplying.Given.{Given}
+use Rattle.isa_step.specs.declared.operands.Given.{Given}
 use Rattle.isa_step.specs.Shown.{Moves}
-use Rattle.isa_step.specs.Deeds.{View, Deed, Due, Does, Waits, Sleeps, Ends, Stops, after, after_store}
+use Rattle.isa_step.specs.Effects.{View, Effect, Due, Does, Waits, Sleeps, Ends, Stops, after, after_store}
 
 -- the act was done: all of the core but its registers, the memory and the ports are as it leaves them
-pub record Leads {P : Type 0} (done : P → List Action) (spare : P → ℕ) (leaves : P → Action → P → Type 0) (deed : Deed) (told : Done) (a : Arch) (m : List ℕ) (p : P) (b : Arch) (n : List ℕ) (q : P) : Type 0 where
-  pub told_of : told ≡ deed.done
-  pub arch : b ≡ record deed.arch { regs = a.regs }
-  pub memory : n ≡ after_store a.order deed.done.store m
-  pub ports : Moves done spare leaves p deed.action q
+pub record Leads {P : Type 0} (done : P → List Action) (spare : P → ℕ) (leaves : P → Action → P → Type 0) (effect : Effect) (told : Done) (a : Arch) (m : List ℕ) (p : P) (b : Arch) (n : List ℕ) (q : P) : Type 0 where
+  pub told_of : told ≡ effect.done
+  pub arch : b ≡ record effect.arch { regs = a.regs }
+  pub memory : n ≡ after_store a.order effect.done.store m
+  pub ports : Moves done spare leaves p effect.action q
 
 -- nothing changed
 pub record Keeps {P : Type 0} (a : Arch) (m : List ℕ) (p : P) (b : Arch) (n : List ℕ) (q : P) : Type 0 where
@@ -27,7 +27,7 @@ pub record Keeps {P : Type 0} (a : Arch) (m : List ℕ) (p : P) (b : Arch) (n : 
 
 -- by the outcome that is due, and the answer
 abbrev pub PerformedBy : {P : Type 0} → (P → List Action) → (P → ℕ) → (P → Action → P → Type 0) → Due → Outcome → Arch → List ℕ → P → Arch → List ℕ → P → Type 0
-PerformedBy done spare leaves (Does deed) (outcome.Did told) a m p b n q = Leads done spare leaves deed told a m p b n q
+PerformedBy done spare leaves (Does effect) (outcome.Did told) a m p b n q = Leads done spare leaves effect told a m p b n q
 PerformedBy done spare leaves (Waits port full) (outcome.Idle idle) a m p b n q = (idle ≡ idles.Waits (record { port = port; full = full })) × Keeps a m p b n q
 PerformedBy done spare leaves Sleeps (outcome.Idle idle) a m p b n q = (idle ≡ idles.Asleep) × Keeps a m p b n q
 PerformedBy done spare leaves Ends (outcome.Idle idle) a m p b n q = (idle ≡ idles.Ended) × Keeps a m p b n q
@@ -47,11 +47,11 @@ Names (outcome.Did told) = NamesOf told
 Names (outcome.Idle idle) = Unit {0}
 
 -- an act that asks nothing of the outside and stores nothing was done on the control registers
-pub record Makes (deed : Deed) (told : Done) (a b : Arch) : Type 0 where
-  pub told_of : told ≡ deed.done
-  pub arch : b ≡ record deed.arch { regs = a.regs }
-  pub quiet : deed.action ≡ None
-  pub storeless : deed.done.store ≡ None
+pub record Makes (effect : Effect) (told : Done) (a b : Arch) : Type 0 where
+  pub told_of : told ≡ effect.done
+  pub arch : b ≡ record effect.arch { regs = a.regs }
+  pub quiet : effect.action ≡ None
+  pub storeless : effect.done.store ≡ None
 
 -- the registers that an instruction writes and makes late are registers
 pub record NamesGiven (g : Given) : Type 0 where
@@ -60,7 +60,7 @@ pub record NamesGiven (g : Given) : Type 0 where
 
 -- the view and the ports after one chance to act, by the outcome that is due and the answer
 abbrev pub SteppedBy : {P : Type 0} → (P → List Action) → (P → ℕ) → (P → Action → P → Type 0) → Due → Step → View → P → View → P → Type 0
-SteppedBy done spare leaves (Does deed) (step.Did act) v p w q = (act ≡ deed.done.act) × (w ≡ after v deed) × Moves done spare leaves p deed.action q
+SteppedBy done spare leaves (Does effect) (step.Did act) v p w q = (act ≡ effect.done.act) × (w ≡ after v effect) × Moves done spare leaves p effect.action q
 SteppedBy done spare leaves (Waits port full) (step.Idle idle) v p w q = (idle ≡ idles.Waits (record { port = port; full = full })) × (w ≡ v) × (q ≡ p)
 SteppedBy done spare leaves Sleeps (step.Idle idle) v p w q = (idle ≡ idles.Asleep) × (w ≡ v) × (q ≡ p)
 SteppedBy done spare leaves Ends (step.Idle idle) v p w q = (idle ≡ idles.Ended) × (w ≡ v) × (q ≡ p)

@@ -8,8 +8,8 @@ ghost use Rattle.isa_step.specs.Performing.{Makes, NamesGiven, NamesOf};
 ghost use Rattle.alu_units.specs.Units.{sign_extended};
 
 use crate::acts::Done;
-use crate::retiring::{into_rd, raise, retire, yields};
-use crate::supplying::Given;
+use crate::commit::{into_rd, raise, retire, yields};
+use crate::operands::Given;
 use alu_units::{DivFault, adder, divide, pcmpeq, pcmpne, sext8, sext16, sra, src, srl};
 use core_regs::{Arch, Msr};
 use delay_imm::advance;

@@ -93,7 +93,7 @@ impl Sees for BenchPorts {
         self.outputs[port as usize].is_none()
     }
 
-    ghost hoped = { λ b. record { interrupt = λ e. rw e refl; maskable = λ e. rw e refl; nonmaskable = λ e. rw e refl } };
+    ghost announced = { λ b. record { interrupt = λ e. rw e refl; maskable = λ e. rw e refl; nonmaskable = λ e. rw e refl } };
 }
 
 impl Ports for BenchPorts {

@@ -1,7 +1,7 @@
 //! What a core sees of its outside, and what it can do there.
 
 ghost use Rattle.std.specs.Prelude.{◌≡◌, ◌<◌, ◌≤◌, ℕ, List, Result};
-ghost use Rattle.isa_step.specs.Resting.{IsHoped};
+ghost use Rattle.isa_step.specs.Resting.{IsAnnounced};
 ghost use Rattle.isa_step.specs.Shown.{Adds, ReadBy, SentBy, Shown, TakenBy, WrittenBy, tested_of};
 ghost use Rattle.isa_step.specs.declared.acts.Action.{Action};
 ghost use Rattle.isa_step.specs.declared.acts.Action.TheVariants.{Missed, Took};
@@ -37,9 +37,9 @@ pub trait Sees {
         requires { port < 16 }
         ensures { result ≡ (shows self.now).room port };
 
-    /// What has come was hoped for: the line is high only where there is a controller, and a break is pending only
+    /// What has come was announced for: the line is high only where there is a controller, and a break is pending only
     /// where `hopes` tells one of its kind.
-    ghost hoped: { (s : Self) → IsHoped (shows s) };
+    ghost announced: { (s : Self) → IsAnnounced (shows s) };
 }
 
 /// The outside of a core. Each call has room for its one action, keeps it at the end of the actions done, and leaves

@@ -6,8 +6,8 @@ ghost use Rattle.isa_step.specs.Special.{barrier, clears_msr, holds_prefix, is_s
 ghost use Rattle.isa_step.specs.Performing.{Makes, NamesGiven, NamesOf};
 
 use crate::acts::{Act, Done};
-use crate::retiring::{into_rd, retire};
-use crate::supplying::Given;
+use crate::commit::{into_rd, retire};
+use crate::operands::Given;
 use bitflags::Flags;
 use core_regs::Arch;
 use delay_imm::{advance, hold_prefix};

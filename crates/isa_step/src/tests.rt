@@ -6,7 +6,7 @@ mod traps;
 
 use crate::acts::{Act, Step};
 use crate::bench::BenchPorts;
-use crate::stepping::perform;
+use crate::step::perform;
 use byte_mem::Memory;
 use core_regs::{Arch, Order, Size};
 use std::alloc::Global;

@@ -1,14 +1,14 @@
 -- What a loaded network board's run follows, and that what is loaded is determined by the files.
 use Rattle.std.proofs.Common.{◌≡◌, ℕ, zero, suc, List, [], ◌∷◌, map, Option, Some, refl, ap, sym, ◌∙◌, subst, slice_get, Bool, true}
 use Rattle.std.proofs.lemmas.Option.{same_Some}
-use Rattle.isa_step.specs.Deeds.{View}
+use Rattle.isa_step.specs.Effects.{View}
 use Rattle.elf_image.specs.Elf.{image_of}
 use Rattle.host_io.specs.Outside.{Files}
 use Rattle.board_file.specs.declared.board.BoardFile.{BoardFile}
 use Rattle.board_file.specs.declared.board.CoreRow.{CoreRow}
 use Rattle.board_file.specs.declared.board.LinkRow.{LinkRow}
 use Rattle.board_file.specs.declared.board.UartRow.{UartRow}
-use Rattle.board_sound.proofs.Soundness.{read_is_sound}
+use Rattle.board_file_laws.proofs.Soundness.{read_is_sound}
 use Rattle.board_load.specs.Files.{Holds}
 use Rattle.board_load.specs.Jobs.{AreCoresOf, AreLoaded, IsCoreOf, IsInputOf, IsSerialOf, input_files, serial_files, view_of}
 use Rattle.board_machine.specs.Cycles.{cycles_of}

@@ -6,10 +6,10 @@ use Rattle.isa_step.specs.declared.acts.Act.{Act}
 use Rattle.isa_step.specs.declared.acts.Act.TheVariants as acts
 use Rattle.isa_step.specs.declared.acts.Action.{Action}
 use Rattle.isa_step.specs.declared.acts.Action.TheVariants as action
-use Rattle.isa_step.specs.Deeds.{Deed}
+use Rattle.isa_step.specs.Effects.{Effect}
 use Rattle.run_journal.specs.declared.entry.Entry.{Entry}
 use Rattle.run_journal.specs.declared.entry.What.{What}
-use Rattle.board_machine.specs.Fabric.{Fabric, act_leaves, entered_some, entries_of_action, entry_of, entry_of_act, entry_of_action, is_wait, kept_wait}
+use Rattle.board_machine.specs.Fabric.{Fabric, act_leaves, entered_some, entries_of_action, entry_of, entry_of_act, entry_of_action, is_wait, logged_wait}
 use Rattle.board_machine.proofs.Lists.{all_append}
 use Rattle.journal_laws.specs.Progress.{by_tick}
 use Rattle.journal_laws.proofs.Lists.{cons_append}
@@ -50,14 +50,14 @@ all_tick [] h = tt
 all_tick (what ∷ es) h = (h.0.0, all_tick es h.1)
 
 -- they leave the wait that is kept
-pub none_waits : (i c act : ℕ) (journal : List Entry) (es : List What) → AllByRecursion IsByAct es → kept_wait i (journal ++ made c i act es) ≡ kept_wait i journal
-none_waits i c act journal [] h = ap (kept_wait i) (append-nil journal)
+pub none_waits : (i c act : ℕ) (journal : List Entry) (es : List What) → AllByRecursion IsByAct es → logged_wait i (journal ++ made c i act es) ≡ logged_wait i journal
+none_waits i c act journal [] h = ap (logged_wait i) (append-nil journal)
 none_waits i c act journal (what ∷ es) h =
     let e : Entry = entry_of c i act what in
-    ap (kept_wait i) (sym (cons_append journal (made c i act es) e))
+    ap (logged_wait i) (sym (cons_append journal (made c i act es) e))
     ∙ none_waits i c act (journal ++ e ∷ []) es h.1
     ∙ kept_more i journal e
-    ∙ no_wait i e (kept_wait i journal) (e.core == i) refl h.0.1
+    ∙ no_wait i e (logged_wait i journal) (e.core == i) refl h.0.1
 
 -- what the entries of a tick leave of a fabric
 
@@ -87,15 +87,15 @@ out_then i act f g h xs ys a b = record {
   pending = λ k n. b.pending k n ∙ a.pending k n;
 }
 
-unfoldable pub deed_whats : Deed → List What
-deed_whats deed = option_to_list (entries_of_action deed.action) ++ option_to_list (entry_of_act deed.done.act)
+unfoldable pub effect_whats : Effect → List What
+effect_whats effect = option_to_list (entries_of_action effect.action) ++ option_to_list (entry_of_act effect.done.act)
 
-pub act_out : (i act : ℕ) (deed : Deed) (f : Fabric) → TickOut i act f (act_leaves i act deed f) (deed_whats deed)
-unfolding deed_whats
-act_out i act deed f =
-    let g = entered_some i act (entries_of_action deed.action) f in
-    out_then i act f g (act_leaves i act deed f) _ _ (some_out i act (entries_of_action deed.action) f) (some_out i act (entry_of_act deed.done.act) g)
+pub act_out : (i act : ℕ) (effect : Effect) (f : Fabric) → TickOut i act f (act_leaves i act effect f) (effect_whats effect)
+unfolding effect_whats
+act_out i act effect f =
+    let g = entered_some i act (entries_of_action effect.action) f in
+    out_then i act f g (act_leaves i act effect f) _ _ (some_out i act (entries_of_action effect.action) f) (some_out i act (entry_of_act effect.done.act) g)
 
-pub deed_acts : (deed : Deed) → AllByRecursion IsByAct (deed_whats deed)
-unfolding deed_whats
-deed_acts deed = all_append IsByAct _ _ (by_actions deed.action) (by_act deed.done.act)
+pub effect_acts : (effect : Effect) → AllByRecursion IsByAct (effect_whats effect)
+unfolding effect_whats
+effect_acts effect = all_append IsByAct _ _ (by_actions effect.action) (by_act effect.done.act)

@@ -11,20 +11,20 @@ use Rattle.core_regs.specs.declared.registers.Arch.{Arch}
 use Rattle.core_regs.specs.State.{bare}
 use Rattle.isa_step.specs.declared.acts.Breaks.{Breaks}
 use Rattle.isa_step.specs.Shown.{Shown}
-use Rattle.isa_step.specs.Deeds.{View, Deed, Due, Does, Waits, Sleeps, Ends, Stops}
+use Rattle.isa_step.specs.Effects.{View, Effect, Due, Does, Waits, Sleeps, Ends, Stops}
 use Rattle.isa_step.specs.Due.{due, due_by, due_with, here_of, is_masked, pick, take_by, take_due}
-use Rattle.isa_step.specs.Wants.{operands_of}
+use Rattle.isa_step.specs.Requests.{operands_of}
 use Rattle.board_file.specs.declared.board.EventRow.{EventRow}
 use Rattle.run_journal.specs.declared.entry.Entry.{Entry}
 use Rattle.run_journal.specs.declared.entry.What.{What}
 use Rattle.run_journal.specs.declared.entry.What.TheVariants.{Took, Wait}
-use Rattle.board_machine.specs.Fabric.{Fabric, act_leaves, entered, entered_some, entries_of_action, entry_of, entry_of_act, is_break, is_kept, shown}
+use Rattle.board_machine.specs.Fabric.{Fabric, act_leaves, entered, entered_some, entries_of_action, entry_of, entry_of_act, is_break, is_logged, shown}
 use Rattle.board_machine.specs.History.{may_take_at, view_told}
 use Rattle.board_machine.specs.World.{CoreAt, IsAct, TickMay}
 use Rattle.journal_laws.specs.BreakLaw.{BreakLaw, PassesNone, goes_first, lets_in, takes_it, was_taken}
 use Rattle.journal_laws.specs.Progress.{by_tick}
 use Rattle.journal_laws.specs.TakeLaw.{may_break, takes_break}
-use Rattle.journal_laws.proofs.ActEntries.{TickOut, act_out, deed_whats, some_out, still_out}
+use Rattle.journal_laws.proofs.ActEntries.{TickOut, act_out, effect_whats, some_out, still_out}
 use Rattle.journal_laws.proofs.Asking.{act_splits}
 use Rattle.journal_laws.proofs.Breaks.{IsServed, Serves, all_map, serves_later, taken_later}
 use Rattle.journal_laws.proofs.Lists.{cons_append, split_at_more}
@@ -85,11 +85,11 @@ take_free : (v : View) (s : Shown) (t : Take) → take_due (here_of v) (bare v.a
 unfolding first_of
 take_free v s t e = record { none = λ kind l g. none_flagged v s (Some t) kind e g l }
 
-deed_free : (v : View) (s : Shown) (d : Deed) → due v s ≡ Does d → AllByRecursion (IsFree v s) (deed_whats d)
-unfolding deed_whats
-deed_free v s d e = elim (act_splits v s d e) [
-  | inl t ↦ subst (λ (d : Deed). AllByRecursion (IsFree v s) (option_to_list (entries_of_action d.action) ++ option_to_list (entry_of_act d.done.act))) (sym t.is) (take_free v s t.take t.due, tt)
-  | inr i ↦ all_free v s (deed_whats d) i.due
+effect_free : (v : View) (s : Shown) (d : Effect) → due v s ≡ Does d → AllByRecursion (IsFree v s) (effect_whats d)
+unfolding effect_whats
+effect_free v s d e = elim (act_splits v s d e) [
+  | inl t ↦ subst (λ (d : Effect). AllByRecursion (IsFree v s) (option_to_list (entries_of_action d.action) ++ option_to_list (entry_of_act d.done.act))) (sym t.is) (take_free v s t.take t.due, tt)
+  | inr i ↦ all_free v s (effect_whats d) i.due
 ]
 
 waits_untaken_by : (v : View) (s : Shown) (t : Option Take) (c : Option StopCause) (port : ℕ) (full : Bool) → due_by (here_of v) (operands_of (here_of v) v.arch.regs) (bare v.arch) v.memory s t c ≡ Waits port full → t ≡ None
@@ -168,13 +168,13 @@ take_serves breaks i act f t kind false k h = all_map _ _ breaks (λ r old c. el
   | inr x ↦ inr (taken_later f.journal (entry_of f.cycle i act (Took t) ∷ []) i kind act (act + 1) r (omega arith) x)
 ]) h
 
-act_serves : (breaks : List EventRow) (i act : ℕ) (v : View) (f : Fabric) (d : Deed) → due v (shown f i) ≡ Does d → Serves breaks (f.cycle + 1) i act f → Serves breaks (f.cycle + 1) i (act + 1) (act_leaves i act d f)
+act_serves : (breaks : List EventRow) (i act : ℕ) (v : View) (f : Fabric) (d : Effect) → due v (shown f i) ≡ Does d → Serves breaks (f.cycle + 1) i act f → Serves breaks (f.cycle + 1) i (act + 1) (act_leaves i act d f)
 act_serves breaks i act v f d e k = elim (act_splits v (shown f i) d e) [
   | inl t ↦ subst (λ d. Serves breaks (f.cycle + 1) i (act + 1) (act_leaves i act d f)) (sym t.is) (record { each = λ kind. take_serves breaks i act f t.take kind (takes_break kind (Took t.take)) refl (k.each kind) })
   | inr n ↦
       let half = entered_some i act (entries_of_action d.action) f in
       let same : (act_leaves i act d f).pending ≡ f.pending = some_pending i act (entry_of_act d.done.act) half (act_plain d.done.act) ∙ some_pending i act (entries_of_action d.action) f (actions_plain (shown f i) d.action n.agrees) in
-      serves_later breaks (f.cycle + 1) i act (act + 1) f (act_leaves i act d f) (made f.cycle i act (deed_whats d)) (omega arith) (λ kind h. ap (λ (ps : List Breaks). flag_at ps i kind) same ∙ h) (act_out i act d f).journal k
+      serves_later breaks (f.cycle + 1) i act (act + 1) f (act_leaves i act d f) (made f.cycle i act (effect_whats d)) (omega arith) (λ kind h. ap (λ (ps : List Breaks). flag_at ps i kind) same ∙ h) (act_out i act d f).journal k
 ]
 
 -- a core's own tick
@@ -192,15 +192,15 @@ own_still breaks views i was before is later e a k law = subst (OwnBreaks breaks
   law = law;
 })
 
-own_act : (breaks : List EventRow) (views : List View) (i : ℕ) (was : CoreAt) (before : Fabric) (is : CoreAt) (later : Fabric) (d : Deed) → due was.view (shown before i) ≡ Does d → IsAct i d was before is later
+own_act : (breaks : List EventRow) (views : List View) (i : ℕ) (was : CoreAt) (before : Fabric) (is : CoreAt) (later : Fabric) (d : Effect) → due was.view (shown before i) ≡ Does d → IsAct i d was before is later
     → ((first : View) → slice_get views i ≡ Some first → view_told first before.journal i was.acts ≡ Some was.view) → Serves breaks (before.cycle + 1) i was.acts before → BreakLaw breaks views before.journal → OwnBreaks breaks views i was before is later
 own_act breaks views i was before is later d e h t k law =
     let o = act_out i was.acts d before in
     subst (OwnBreaks breaks views i was before is) (sym h.fabric) (record {
-      es = deed_whats d;
+      es = effect_whats d;
       out = o;
       serves = subst (λ n. Serves breaks (before.cycle + 1) i n (act_leaves i was.acts d before)) (sym (ap (λ (s : CoreAt). s.acts) h.state)) (act_serves breaks i was.acts was.view before d e k);
-      law = subst (BreakLaw breaks views) (sym o.journal) (law_made breaks views before.cycle i was.acts before.journal (deed_whats d) (all_map _ _ (deed_whats d) (λ what free first v. passes_at breaks first was.view i was.acts before what (t first v) k free) (deed_free was.view (shown before i) d e)) law);
+      law = subst (BreakLaw breaks views) (sym o.journal) (law_made breaks views before.cycle i was.acts before.journal (effect_whats d) (all_map _ _ (effect_whats d) (λ what free first v. passes_at breaks first was.view i was.acts before what (t first v) k free) (effect_free was.view (shown before i) d e)) law);
     })
 
 own_wait : (breaks : List EventRow) (views : List View) (i : ℕ) (was : CoreAt) (before : Fabric) (is : CoreAt) (later : Fabric) (on : WaitOn) (kept : Bool) → later ≡ cond kept before (entered i was.acts (Wait on) before) → is.acts ≡ was.acts → due was.view (shown before i) ≡ Waits on.port on.full
@@ -220,7 +220,7 @@ pub own_breaks : (breaks : List EventRow) (views : List View) (i : ℕ) (d : Due
     → ((first : View) → slice_get views i ≡ Some first → view_told first before.journal i was.acts ≡ Some was.view) → Serves breaks (before.cycle + 1) i was.acts before → BreakLaw breaks views before.journal → OwnBreaks breaks views i was before is later
 own_breaks breaks views i (Does d) was before is later e (inl h) t k law = own_act breaks views i was before is later d e h t k law
 own_breaks breaks views i (Does d) was before is later e (inr h) t k law = own_still breaks views i was before is later h.fabric (ap (λ (s : CoreAt). s.acts) h.state) k law
-own_breaks breaks views i (Waits port full) was before is later e (inl h) t k law = own_wait breaks views i was before is later (record { port = port; full = full }) (is_kept i was.acts before.journal) h.fabric (ap (λ (s : CoreAt). s.acts) h.state) e t k law
+own_breaks breaks views i (Waits port full) was before is later e (inl h) t k law = own_wait breaks views i was before is later (record { port = port; full = full }) (is_logged i was.acts before.journal) h.fabric (ap (λ (s : CoreAt). s.acts) h.state) e t k law
 own_breaks breaks views i (Waits port full) was before is later e (inr h) t k law = own_still breaks views i was before is later h.fabric (ap (λ (s : CoreAt). s.acts) h.state) k law
 own_breaks breaks views i Sleeps was before is later e h t k law = own_still breaks views i was before is later h.fabric (ap (λ (s : CoreAt). s.acts) h.state) k law
 own_breaks breaks views i Ends was before is later e h t k law = own_still breaks views i was before is later h.fabric (ap (λ (s : CoreAt). s.acts) h.state) k law

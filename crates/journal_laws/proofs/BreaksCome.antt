@@ -3,7 +3,7 @@ use Rattle.std.proofs.Common.{◌≡◌, ℕ, ◌+◌, ◌≤◌, ◌&&◌, not,
 use Rattle.std.specs.List.{fold, list_any}
 use Rattle.std.proofs.lemmas.Bool.{cases_eq, eq-eqb, lt-ltb, ltb-false, ltb-true}
 use Rattle.isa_step.specs.declared.acts.Breaks.{Breaks}
-use Rattle.isa_step.specs.Deeds.{View}
+use Rattle.isa_step.specs.Effects.{View}
 use Rattle.board_file.specs.declared.board.EventRow.{EventRow}
 use Rattle.board_machine.specs.Places.{set_some}
 use Rattle.board_machine.specs.Fabric.{Fabric, breaks_come, flagged, given, has_come, is_break, is_to_come, next_cycle, or_none}

@@ -7,22 +7,22 @@ use Rattle.delay_imm.specs.Slots.{may_take}
 use Rattle.isa_step.specs.declared.acts.Hopes.{Hopes}
 use Rattle.isa_step.specs.declared.acts.Idle.TheVariants as idle
 use Rattle.isa_step.specs.Shown.{Shown}
-use Rattle.isa_step.specs.Deeds.{View, Deed, Due, Does, Waits, Sleeps, Ends, Stops, Want, Goes, Homes, Gets, Puts, Reads, Writes}
+use Rattle.isa_step.specs.Effects.{View, Effect, Due, Does, Waits, Sleeps, Ends, Stops, Request, Goes, HaltLoop, Gets, Puts, Reads, Writes}
 use Rattle.isa_step.specs.Due.{due, here_of, is_closed, is_masked}
-use Rattle.isa_step.specs.Resting.{IsHoped, idle_awake, idle_by, idle_due, idle_quiet, idle_view, idle_want, is_quiet}
-use Rattle.isa_step.specs.Wants.{is_atomic_here, operands_of}
+use Rattle.isa_step.specs.Resting.{IsAnnounced, idle_awake, idle_by, idle_due, idle_quiet, idle_view, idle_request, is_quiet}
+use Rattle.isa_step.specs.Requests.{is_atomic_here, operands_of}
 use Rattle.isa_step.proofs.RestLaws.{idle_lasts}
-use Rattle.machine_laws.specs.Holding.{want_of}
-use Rattle.journal_laws.proofs.Outcomes.{Gone, is_home}
+use Rattle.machine_laws.specs.Holding.{request_at}
+use Rattle.journal_laws.proofs.Outcomes.{Gone, is_halt_loop}
 use Rattle.journal_laws.proofs.Truths.{or_left}
 
-home_idle : (a : Arch) (w : Want) (s : Shown) → is_home w ≡ true → is_closed a s.hopes ≡ true → idle_want a w s ≡ Some idle.Ended
-home_idle a (Homes deed) s h c = rw c refl
-home_idle a (Goes deed) s h c = cc
-home_idle a (Gets port item empty) s h c = cc
-home_idle a (Puts port room full) s h c = cc
-home_idle a (Reads addr answer) s h c = cc
-home_idle a (Writes addr word answer) s h c = cc
+halt_loop_idle : (a : Arch) (w : Request) (s : Shown) → is_halt_loop w ≡ true → is_closed a s.hopes ≡ true → idle_request a w s ≡ Some idle.Ended
+halt_loop_idle a (HaltLoop effect) s h c = rw c refl
+halt_loop_idle a (Goes effect) s h c = cc
+halt_loop_idle a (Gets port item empty) s h c = cc
+halt_loop_idle a (Puts port room full) s h c = cc
+halt_loop_idle a (Reads addr answer) s h c = cc
+halt_loop_idle a (Writes addr word answer) s h c = cc
 
 gone_quiet : (v : View) (s : Shown) → is_closed (bare v.arch) s.hopes ≡ true → is_quiet (bare v.arch) (here_of v) s ≡ true
 unfolding is_quiet
@@ -35,22 +35,22 @@ gone_idle v s g =
     ap (idle_by here o (bare v.arch) v.memory s) g.awake.stopped
     ∙ ap (idle_quiet here o (bare v.arch) v.memory s) (gone_quiet v s g.shut)
     ∙ ap (idle_awake here o (bare v.arch) v.memory s) g.awake.asleep
-    ∙ home_idle (bare v.arch) (want_of v) s g.home g.shut
+    ∙ halt_loop_idle (bare v.arch) (request_at v) s g.halting g.shut
 
 only_ends : (d : Due) → idle_due d ≡ Some idle.Ended → d ≡ Ends
-only_ends (Does deed) h = cc
+only_ends (Does effect) h = cc
 only_ends (Waits port full) h = cc
 only_ends Sleeps h = cc
 only_ends Ends h = refl
 only_ends (Stops cause) h = cc
 
-pub gone_ends : (v : View) (s : Shown) → IsHoped s → Gone v s.hopes → due v s ≡ Ends
+pub gone_ends : (v : View) (s : Shown) → IsAnnounced s → Gone v s.hopes → due v s ≡ Ends
 gone_ends v s h g = only_ends (due v s) (idle_lasts v s idle.Ended h (gone_idle v s g))
 
-pub gone_acts : (v : View) (s : Shown) (deed : Deed) → IsHoped s → due v s ≡ Does deed → Gone v s.hopes → ⊥
-gone_acts v s deed h d g = let e = sym (gone_ends v s h g) ∙ d in cc
+pub gone_acts : (v : View) (s : Shown) (effect : Effect) → IsAnnounced s → due v s ≡ Does effect → Gone v s.hopes → ⊥
+gone_acts v s effect h d g = let e = sym (gone_ends v s h g) ∙ d in cc
 
-pub gone_waits : (v : View) (s : Shown) (port : ℕ) (full : Bool) → IsHoped s → due v s ≡ Waits port full → Gone v s.hopes → ⊥
+pub gone_waits : (v : View) (s : Shown) (port : ℕ) (full : Bool) → IsAnnounced s → due v s ≡ Waits port full → Gone v s.hopes → ⊥
 gone_waits v s port full h d g = let e = sym (gone_ends v s h g) ∙ d in cc
 
 -- hopes that are no more than others
@@ -80,6 +80,6 @@ pub gone_fewer : (v : View) (g h : Hopes) → AreFewer g h → Gone v h → Gone
 unfolding is_closed
 gone_fewer v g h f x = record {
   awake = x.awake;
-  home = x.home;
+  halting = x.halting;
   shut = closed_by h.nonmaskable h.maskable h.interrupt g.nonmaskable g.maskable g.interrupt (is_masked (bare v.arch)) (interrupts_on (bare v.arch)) f.nonmaskable f.maskable f.interrupt x.shut;
 }

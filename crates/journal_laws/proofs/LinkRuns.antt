@@ -7,7 +7,7 @@ use Rattle.core_regs.specs.declared.causes.WaitOn.{WaitOn}
 use Rattle.isa_step.specs.declared.acts.Act.{Act}
 use Rattle.isa_step.specs.declared.acts.Act.TheVariants as acts
 use Rattle.isa_step.specs.Shown.{Shown}
-use Rattle.isa_step.specs.Deeds.{View, Deed, Due, Does, Waits, Sleeps, Ends, Stops}
+use Rattle.isa_step.specs.Effects.{View, Effect, Due, Does, Waits, Sleeps, Ends, Stops}
 use Rattle.isa_step.specs.Due.{due}
 use Rattle.board_file.specs.declared.board.BoardFile.{BoardFile}
 use Rattle.board_file.specs.declared.board.LinkRow.{LinkRow}
@@ -19,7 +19,7 @@ use Rattle.board_machine.specs.declared.events.Event.TheVariants.{Devices, Host,
 use Rattle.board_machine.specs.declared.events.HostPart.{HostPart}
 use Rattle.board_machine.specs.declared.events.HostPart.TheVariants.{Sends, Takes, Nothing}
 use Rattle.board_machine.specs.DeviceMoves.{line_change, line_driven}
-use Rattle.board_machine.specs.Fabric.{Fabric, act_leaves, entered, entered_some, entries_of_action, entry_of, entry_of_act, first_in, got_of, host_moves, is_kept, link_from, link_to, move_by, next_of, next_sent, no_core, or_low, part_at, room_in, sent_of, shown}
+use Rattle.board_machine.specs.Fabric.{Fabric, act_leaves, entered, entered_some, entries_of_action, entry_of, entry_of_act, first_in, got_of, host_moves, is_logged, link_from, link_to, move_by, next_of, next_sent, no_core, or_low, part_at, room_in, sent_of, shown}
 use Rattle.board_machine.specs.World.{CoreAt, Inputs, Start, Step, Steps, TickMay, World, acts_of}
 use Rattle.board_machine.proofs.Lasting.{step_kept}
 use Rattle.journal_laws.specs.LinkLaw.{LinkLaw, MayStand}
@@ -72,10 +72,10 @@ off_valid core act o f h k = agreed_valid core act o f (h (shown f core)) k
 
 -- a tick
 
-act_valid : (core act : ℕ) (deed : Deed) (f : Fabric) → AgreesIf (shown f core) (entries_of_action deed.action) → IsValidIn f → IsValidIn (act_leaves core act deed f)
-act_valid core act deed f h k =
-    let g = entered_some core act (entries_of_action deed.action) f in
-    off_valid core act (entry_of_act deed.done.act) g (act_off deed.done.act) (agreed_valid core act (entries_of_action deed.action) f h k)
+act_valid : (core act : ℕ) (effect : Effect) (f : Fabric) → AgreesIf (shown f core) (entries_of_action effect.action) → IsValidIn f → IsValidIn (act_leaves core act effect f)
+act_valid core act effect f h k =
+    let g = entered_some core act (entries_of_action effect.action) f in
+    off_valid core act (entry_of_act effect.done.act) g (act_off effect.done.act) (agreed_valid core act (entries_of_action effect.action) f h k)
 
 wait_valid : (core act : ℕ) (on : WaitOn) (f : Fabric) (kept : Bool) → ShowsNone (shown f core) on.port on.full → IsValidIn f → IsValidIn (cond kept f (entered core act (Wait on) f))
 wait_valid core act on f true h k = k
@@ -84,18 +84,18 @@ wait_valid core act on f false h k = entered_valid core act (Wait on) f (none_st
 took_valid : (core act : ℕ) (t : Take) (f : Fabric) → IsValidIn f → IsValidIn (entered core act (Took t) f)
 took_valid core act t f k = entered_valid core act (Took t) f tt k
 
-done_valid : (core act : ℕ) (v : View) (deed : Deed) (f : Fabric) → due v (shown f core) ≡ Does deed → IsValidIn f → IsValidIn (act_leaves core act deed f)
-done_valid core act v deed f e k = elim (act_splits v (shown f core) deed e) [
-  | inl t ↦ subst (λ deed. IsValidIn (act_leaves core act deed f)) (sym t.is) (took_valid core act t.take f k)
-  | inr i ↦ act_valid core act deed f i.agrees k
+done_valid : (core act : ℕ) (v : View) (effect : Effect) (f : Fabric) → due v (shown f core) ≡ Does effect → IsValidIn f → IsValidIn (act_leaves core act effect f)
+done_valid core act v effect f e k = elim (act_splits v (shown f core) effect e) [
+  | inl t ↦ subst (λ effect. IsValidIn (act_leaves core act effect f)) (sym t.is) (took_valid core act t.take f k)
+  | inr i ↦ act_valid core act effect f i.agrees k
 ]
 
 tick_valid : (core : ℕ) (d : Due) (old : CoreAt) (before : Fabric) (new : CoreAt) (later : Fabric) → due old.view (shown before core) ≡ d → TickMay core d old before new later → IsValidIn before → IsValidIn later
-tick_valid core (Does deed) old before new later e (inl a) k = subst IsValidIn (sym a.fabric) (done_valid core old.acts old.view deed before e k)
-tick_valid core (Does deed) old before new later e (inr i) k = subst IsValidIn (sym i.fabric) k
+tick_valid core (Does effect) old before new later e (inl a) k = subst IsValidIn (sym a.fabric) (done_valid core old.acts old.view effect before e k)
+tick_valid core (Does effect) old before new later e (inr i) k = subst IsValidIn (sym i.fabric) k
 tick_valid core (Waits port full) old before new later e (inl i) k =
     let on : WaitOn = record { port = port; full = full } in
-    subst IsValidIn (sym i.fabric) (wait_valid core old.acts on before (is_kept core old.acts before.journal) (wait_shows old.view (shown before core) port full e) k)
+    subst IsValidIn (sym i.fabric) (wait_valid core old.acts on before (is_logged core old.acts before.journal) (wait_shows old.view (shown before core) port full e) k)
 tick_valid core (Waits port full) old before new later e (inr i) k = subst IsValidIn (sym i.fabric) k
 tick_valid core Sleeps old before new later e i k = subst IsValidIn (sym i.fabric) k
 tick_valid core Ends old before new later e i k = subst IsValidIn (sym i.fabric) k

@@ -26,12 +26,12 @@ use Rattle.isa_step.specs.declared.acts.Action.TheVariants.{Missed, ReadRefused,
 use Rattle.isa_step.specs.declared.acts.Here.{Here}
 use Rattle.isa_step.specs.declared.acts.Hopes.{Hopes}
 use Rattle.isa_step.specs.declared.acts.Operands.{Operands}
-use Rattle.isa_step.specs.declared.supplying.Given.{Given}
+use Rattle.isa_step.specs.declared.operands.Given.{Given}
 use Rattle.op_table.specs.declared.kinds.Kind.{Kind}
 use Rattle.op_table.specs.declared.kinds.Kind.TheVariants.{Add, Rsub, Divide, BranchIf, Barrier, Load, Store, Get, Put}
 use Rattle.op_table.specs.Kinds.{belongs_into_slot}
 use Rattle.op_table.specs.Table.{kind_of}
-use Rattle.isa_step.specs.Deeds.{View, Deed, Due, Does, Waits, Sleeps, Ends, Stops, Want, Goes, Homes, Gets, Puts, Reads, Writes, faults, raises, retires, stops}
+use Rattle.isa_step.specs.Effects.{View, Effect, Due, Does, Waits, Sleeps, Ends, Stops, Request, Goes, HaltLoop, Gets, Puts, Reads, Writes, faults, raises, retires, stops}
 use Rattle.isa_step.specs.Due.{awake, by_item, by_room, due, due_by, due_with, here_of, is_closed, reply, take_due, takes}
 use Rattle.isa_step.specs.Arithmetic.{cause_of, divided}
 use Rattle.isa_step.specs.Branches.{branches_if, holds}
@@ -39,8 +39,8 @@ use Rattle.isa_step.specs.Special.{barrier, is_sleep}
 use Rattle.isa_step.specs.Links.{checked, got_or_seen, gets_from, is_expected, is_nonblocking, is_raised, marked, passed, port_of, puts_to, receives}
 use Rattle.isa_step.specs.Loads.{address, is_aligned, keeps, loads, loads_at, loads_from, loads_past, lowered, no_data, read_from_bus, stores, stores_at, stores_past, unaligned, written_to_bus}
 use Rattle.isa_step.specs.Shown.{Shown}
-use Rattle.isa_step.specs.Wants.{comes_home, deed_of, effect, given, illegal, is_banned, is_end, operands_of, wants, wants_instr, wants_kind}
-use Rattle.machine_laws.specs.Holding.{want_of}
+use Rattle.isa_step.specs.Requests.{halt_loop, effect_of, request_of, given, illegal, is_banned, is_end, operands_of, requested, requested_instr, requested_kind}
+use Rattle.machine_laws.specs.Holding.{request_at}
 use Rattle.machine_laws.specs.Silence.{IsAwake}
 
 -- a core as awake and as stopped as another
@@ -54,25 +54,25 @@ says_rest acts.Slept = true
 says_rest (acts.Stopped cause) = true
 says_rest _ = false
 
--- a deed leaves sleep and stop as they were, or it goes to sleep, or stops
-data Leaves (a : Arch) (d : Deed) : Type 0 where
+-- a effect leaves sleep and stop as they were, or it goes to sleep, or stops
+data Leaves (a : Arch) (d : Effect) : Type 0 where
   stays : IsAlike a d.arch → says_rest d.done.act ≡ false → Leaves a d
   sleeps : d.done.act ≡ acts.Slept → d.arch.asleep ≡ true → d.arch.stopped ≡ a.stopped → Leaves a d
   halts : (cause : StopCause) → d.done.act ≡ acts.Stopped cause → d.arch.stopped ≡ Some cause → d.arch.asleep ≡ a.asleep → Leaves a d
 
-abbrev WantLeaves : Arch → Want → Type 0
-WantLeaves a (Goes d) = Leaves a d
-WantLeaves a (Homes d) = Leaves a d
-WantLeaves a (Gets port item empty) = ((x : Item) → Leaves a (item x)) × ((d : Deed) → empty ≡ Some d → Leaves a d)
-WantLeaves a (Puts port room full) = Leaves a room × ((d : Deed) → full ≡ Some d → Leaves a d)
-WantLeaves a (Reads addr answer) = (o : Option ℕ) → Leaves a (answer o)
-WantLeaves a (Writes addr word answer) = (b : Bool) → Leaves a (answer b)
+abbrev RequestLeaves : Arch → Request → Type 0
+RequestLeaves a (Goes d) = Leaves a d
+RequestLeaves a (HaltLoop d) = Leaves a d
+RequestLeaves a (Gets port item empty) = ((x : Item) → Leaves a (item x)) × ((d : Effect) → empty ≡ Some d → Leaves a d)
+RequestLeaves a (Puts port room full) = Leaves a room × ((d : Effect) → full ≡ Some d → Leaves a d)
+RequestLeaves a (Reads addr answer) = (o : Option ℕ) → Leaves a (answer o)
+RequestLeaves a (Writes addr word answer) = (b : Bool) → Leaves a (answer b)
 
-either : (a : Arch) (b : Bool) (x y : Want) → WantLeaves a x → WantLeaves a y → WantLeaves a (if b then x else y)
+either : (a : Arch) (b : Bool) (x y : Request) → RequestLeaves a x → RequestLeaves a y → RequestLeaves a (if b then x else y)
 either a true x y p q = p
 either a false x y p q = q
 
-one_of : (a : Arch) (b : Bool) (x y : Deed) → Leaves a x → Leaves a y → Leaves a (if b then x else y)
+one_of : (a : Arch) (b : Bool) (x y : Effect) → Leaves a x → Leaves a y → Leaves a (if b then x else y)
 one_of a true x y p q = p
 one_of a false x y p q = q
 
@@ -119,16 +119,16 @@ branch_leaves g a false false = stays (record { asleep = refl; stopped = refl })
 barrier_leaves : (g : Given) (a : Arch) → Leaves a (barrier g a)
 barrier_leaves g a = one_of a (is_sleep g.imm) _ _ (sleeps refl refl refl) (stays (record { asleep = refl; stopped = refl }) refl)
 
-deed_leaves : (kind : Kind) (g : Given) (a : Arch) → Leaves a (deed_of kind g a)
-unfolding deed_of
-deed_leaves (Add with_carry true) g a = stays (record { asleep = refl; stopped = refl }) refl
-deed_leaves (Add with_carry false) g a = stays (record { asleep = refl; stopped = refl }) refl
-deed_leaves (Rsub with_carry true) g a = stays (record { asleep = refl; stopped = refl }) refl
-deed_leaves (Rsub with_carry false) g a = stays (record { asleep = refl; stopped = refl }) refl
-deed_leaves (Divide signed) g a = divided_leaves g a (quotient_of g.b g.a signed) (fault_of g.b g.a signed)
-deed_leaves (BranchIf condition delayed) g a = branch_leaves g a delayed (holds condition g.a)
-deed_leaves Barrier g a = barrier_leaves g a
-deed_leaves _ g a = stays (record { asleep = refl; stopped = refl }) refl
+effect_leaves : (kind : Kind) (g : Given) (a : Arch) → Leaves a (effect_of kind g a)
+unfolding effect_of
+effect_leaves (Add with_carry true) g a = stays (record { asleep = refl; stopped = refl }) refl
+effect_leaves (Add with_carry false) g a = stays (record { asleep = refl; stopped = refl }) refl
+effect_leaves (Rsub with_carry true) g a = stays (record { asleep = refl; stopped = refl }) refl
+effect_leaves (Rsub with_carry false) g a = stays (record { asleep = refl; stopped = refl }) refl
+effect_leaves (Divide signed) g a = divided_leaves g a (quotient_of g.b g.a signed) (fault_of g.b g.a signed)
+effect_leaves (BranchIf condition delayed) g a = branch_leaves g a delayed (holds condition g.a)
+effect_leaves Barrier g a = barrier_leaves g a
+effect_leaves _ g a = stays (record { asleep = refl; stopped = refl }) refl
 
 data_leaves : (a : Arch) (addr : ℕ) (o : Option Action) → Leaves a (no_data a addr o)
 data_leaves a addr o = fault_leaves a (DataBus addr) (stop.DataBus addr) o
@@ -141,33 +141,33 @@ write_leaves : (g : Given) (a : Arch) (addr : ℕ) (b : Bool) → Leaves a (writ
 write_leaves g a addr true = stays (record { asleep = refl; stopped = refl }) refl
 write_leaves g a addr false = data_leaves a addr (Some (WriteRefused addr g.d))
 
-load_past : (g : Given) (a : Arch) (addr : ℕ) (size : Size) → WantLeaves a (loads_past g a addr size)
+load_past : (g : Given) (a : Arch) (addr : ℕ) (size : Size) → RequestLeaves a (loads_past g a addr size)
 load_past g a addr Byte = data_leaves a addr None
 load_past g a addr Half = data_leaves a addr None
 load_past g a addr Word = word_leaves g a addr
 
-load_from : (g : Given) (a : Arch) (size : Size) (addr : ℕ) (o : Option ℕ) → WantLeaves a (loads_from g a size addr o)
+load_from : (g : Given) (a : Arch) (size : Size) (addr : ℕ) (o : Option ℕ) → RequestLeaves a (loads_from g a size addr o)
 load_from g a size addr (Some value) = stays (record { asleep = refl; stopped = refl }) refl
 load_from g a size addr None = load_past g a addr size
 
-load_leaves : (g : Given) (a : Arch) (m : List ℕ) (size : Size) → WantLeaves a (loads g a m size)
+load_leaves : (g : Given) (a : Arch) (m : List ℕ) (size : Size) → RequestLeaves a (loads g a m size)
 load_leaves g a m size =
     let addr = lowered size (address g) in
     either a (not (is_aligned size (address g)) && exceptions_on a) (unaligned g a size false) (loads_at g a m size addr) (stays (record { asleep = refl; stopped = refl }) refl)
     (load_from g a size addr (loaded m size a.order addr))
 
-store_past : (g : Given) (a : Arch) (addr : ℕ) (size : Size) → WantLeaves a (stores_past g a addr size)
+store_past : (g : Given) (a : Arch) (addr : ℕ) (size : Size) → RequestLeaves a (stores_past g a addr size)
 store_past g a addr Byte = data_leaves a addr None
 store_past g a addr Half = data_leaves a addr None
 store_past g a addr Word = write_leaves g a addr
 
-store_leaves : (g : Given) (a : Arch) (m : List ℕ) (size : Size) → WantLeaves a (stores g a m size)
+store_leaves : (g : Given) (a : Arch) (m : List ℕ) (size : Size) → RequestLeaves a (stores g a m size)
 store_leaves g a m size =
     let addr = lowered size (address g) in
     either a (not (is_aligned size (address g)) && exceptions_on a) (unaligned g a size true) (stores_at g a m size addr) (stays (record { asleep = refl; stopped = refl }) refl)
     (either a (fits m addr (bytes_of size)) (Goes (keeps g a size addr None)) (stores_past g a addr size) (stays (record { asleep = refl; stopped = refl }) refl) (store_past g a addr size))
 
-missed_leaves : (a : Arch) (b : Bool) (missed d : Deed) → Leaves a missed → (if b then Some missed else None) ≡ Some d → Leaves a d
+missed_leaves : (a : Arch) (b : Bool) (missed d : Effect) → Leaves a missed → (if b then Some missed else None) ≡ Some d → Leaves a d
 missed_leaves a true missed d h e = subst (Leaves a) (same_Some _ _ e) h
 missed_leaves a false missed d h e = cc
 
@@ -183,71 +183,71 @@ receive_leaves g a port x =
     (raised_leaves a (checked g.flags x (marked g.flags false a)) (Stream port x.word) (Some (got_or_seen g.flags port x)) (checked_alike a (marked g.flags false a) g.flags x (marked_alike a a g.flags false (same a))))
     (stays (record { asleep = h.asleep; stopped = h.stopped }) refl)
 
-get_leaves : (g : Given) (a : Arch) (port : ℕ) → WantLeaves a (gets_from g a port)
+get_leaves : (g : Given) (a : Arch) (port : ℕ) → RequestLeaves a (gets_from g a port)
 get_leaves g a port = (receive_leaves g a port, λ d e. missed_leaves a (is_nonblocking g.flags) _ d (miss_stays g a port false) e)
 
-put_leaves : (g : Given) (a : Arch) (port : ℕ) → WantLeaves a (puts_to g a port)
+put_leaves : (g : Given) (a : Arch) (port : ℕ) → RequestLeaves a (puts_to g a port)
 put_leaves g a port =
     let h = marked_alike a (passed g a) g.flags false (passed_alike g a) in
     (stays (record { asleep = h.asleep; stopped = h.stopped }) refl, λ d e. missed_leaves a (is_nonblocking g.flags) _ d (miss_stays g a port true) e)
 
-effect_leaves : (kind : Kind) (g : Given) (a : Arch) (m : List ℕ) → WantLeaves a (effect kind g a m)
-unfolding effect
-effect_leaves (Load size) g a m = load_leaves g a m size
-effect_leaves (Store size) g a m = store_leaves g a m size
-effect_leaves (Get dynamic) g a m = get_leaves g a (port_of g dynamic)
-effect_leaves (Put dynamic) g a m = put_leaves g a (port_of g dynamic)
-effect_leaves kind g a m = deed_leaves kind g a
+request_of_leaves : (kind : Kind) (g : Given) (a : Arch) (m : List ℕ) → RequestLeaves a (request_of kind g a m)
+unfolding request_of
+request_of_leaves (Load size) g a m = load_leaves g a m size
+request_of_leaves (Store size) g a m = store_leaves g a m size
+request_of_leaves (Get dynamic) g a m = get_leaves g a (port_of g dynamic)
+request_of_leaves (Put dynamic) g a m = put_leaves g a (port_of g dynamic)
+request_of_leaves kind g a m = effect_leaves kind g a
 
-kind_leaves : (kind : Kind) (i : Instr) (word : ℕ) (o : Operands) (a : Arch) (m : List ℕ) → WantLeaves a (wants_kind kind i word o a m)
+kind_leaves : (kind : Kind) (i : Instr) (word : ℕ) (o : Operands) (a : Arch) (m : List ℕ) → RequestLeaves a (requested_kind kind i word o a m)
 kind_leaves kind i word o a m =
-    let placed = if is_some a.slot && not (belongs_into_slot kind) then Goes (stops a (stop.Slot word) None) else effect kind (given i o a) a m in
+    let placed = if is_some a.slot && not (belongs_into_slot kind) then Goes (stops a (stop.Slot word) None) else request_of kind (given i o a) a m in
     either a (is_banned i kind a.network) (illegal a word) placed (fault_leaves a IllegalWord (stop.Illegal word) None)
-    (either a (is_some a.slot && not (belongs_into_slot kind)) (Goes (stops a (stop.Slot word) None)) (effect kind (given i o a) a m) (halts (stop.Slot word) refl refl refl) (effect_leaves kind (given i o a) a m))
+    (either a (is_some a.slot && not (belongs_into_slot kind)) (Goes (stops a (stop.Slot word) None)) (request_of kind (given i o a) a m) (halts (stop.Slot word) refl refl refl) (request_of_leaves kind (given i o a) a m))
 
-instr_leaves : (i : Option Instr) (word : ℕ) (o : Operands) (a : Arch) (m : List ℕ) → WantLeaves a (wants_instr i word o a m)
+instr_leaves : (i : Option Instr) (word : ℕ) (o : Operands) (a : Arch) (m : List ℕ) → RequestLeaves a (requested_instr i word o a m)
 instr_leaves None word o a m = fault_leaves a IllegalWord (stop.Illegal word) None
 instr_leaves (Some i) word o a m = kind_leaves (kind_of i.op) i word o a m
 
-want_leaves : (here : Option Here) (o : Operands) (a : Arch) (m : List ℕ) → WantLeaves a (wants here o a m)
-unfolding wants
-want_leaves None o a m = fault_leaves a InstrBus (stop.InstrBus a.pc) None
-want_leaves (Some here) o a m =
-    either a (is_end here.word a) (Homes (comes_home a)) (wants_instr here.instr here.word o a m) (stays (record { asleep = refl; stopped = refl }) refl) (instr_leaves here.instr here.word o a m)
+request_leaves : (here : Option Here) (o : Operands) (a : Arch) (m : List ℕ) → RequestLeaves a (requested here o a m)
+unfolding requested
+request_leaves None o a m = fault_leaves a InstrBus (stop.InstrBus a.pc) None
+request_leaves (Some here) o a m =
+    either a (is_end here.word a) (HaltLoop (halt_loop a)) (requested_instr here.instr here.word o a m) (stays (record { asleep = refl; stopped = refl }) refl) (instr_leaves here.instr here.word o a m)
 
 -- the outcome that is due
 
 -- a view sleeps or is stopped after an act exactly where the act says so
-pub record SaysRest (d : Deed) : Type 0 where
+pub record SaysRest (d : Effect) : Type 0 where
   pub asleep : d.arch.asleep ≡ true → d.done.act ≡ acts.Slept
   pub stopped : is_some d.arch.stopped ≡ true → (cause : StopCause) × (d.done.act ≡ acts.Stopped cause)
   pub sleeps : d.done.act ≡ acts.Slept → d.arch.asleep ≡ true
   pub halts : (cause : StopCause) → d.done.act ≡ acts.Stopped cause → is_some d.arch.stopped ≡ true
 
 -- the access at which a view waits
-abbrev pub access_of : Want → Option WaitOn
+abbrev pub access_of : Request → Option WaitOn
 access_of (Gets port item empty) = Some (record { port = port; full = false })
 access_of (Puts port room full) = Some (record { port = port; full = true })
 access_of _ = None
 
-abbrev pub is_home : Want → Bool
-is_home (Homes deed) = true
-is_home _ = false
+abbrev pub is_halt_loop : Request → Bool
+is_halt_loop (HaltLoop effect) = true
+is_halt_loop _ = false
 
 -- a core at its end, where no take can come
 pub record Gone (v : View) (hopes : Hopes) : Type 0 where
   pub awake : IsAwake v
-  pub home : is_home (want_of v) ≡ true
+  pub halting : is_halt_loop (request_at v) ≡ true
   pub shut : is_closed (bare v.arch) hopes ≡ true
 
 abbrev Determines : View → Shown → Due → Type 0
 Determines v s (Does d) = SaysRest d
-Determines v s (Waits port full) = access_of (want_of v) ≡ Some (record { port = port; full = full })
+Determines v s (Waits port full) = access_of (request_at v) ≡ Some (record { port = port; full = full })
 Determines v s Sleeps = v.arch.asleep ≡ true
 Determines v s Ends = Gone v s.hopes
 Determines v s (Stops cause) = v.arch.stopped ≡ Some cause
 
-leaves_says : (v : View) (d : Deed) → IsAwake v → Leaves (bare v.arch) d → SaysRest d
+leaves_says : (v : View) (d : Effect) → IsAwake v → Leaves (bare v.arch) d → SaysRest d
 leaves_says v d w (stays h n) = record {
   asleep = λ x. let z : false ≡ true = sym (h.asleep ∙ w.asleep) ∙ x in cc;
   stopped = λ x. let z : false ≡ true = ap is_some (sym (h.stopped ∙ w.stopped)) ∙ x in cc;
@@ -267,23 +267,23 @@ leaves_says v d w (halts cause h t k) = record {
   halts = λ other x. ap is_some t;
 }
 
-item_determines : (v : View) (s : Shown) (port : ℕ) (item : Item → Deed) (empty : Option Deed) (o : Option Item) → IsAwake v → want_of v ≡ Gets port item empty → WantLeaves (bare v.arch) (Gets port item empty) → Determines v s (by_item port item empty o)
+item_determines : (v : View) (s : Shown) (port : ℕ) (item : Item → Effect) (empty : Option Effect) (o : Option Item) → IsAwake v → request_at v ≡ Gets port item empty → RequestLeaves (bare v.arch) (Gets port item empty) → Determines v s (by_item port item empty o)
 item_determines v s port item empty (Some x) w e h = leaves_says v (item x) w (h.0 x)
 item_determines v s port item (Some d) None w e h = leaves_says v d w (h.1 d refl)
 item_determines v s port item None None w e h = ap access_of e
 
-room_determines : (v : View) (s : Shown) (port : ℕ) (room : Deed) (full : Option Deed) (b : Bool) → IsAwake v → want_of v ≡ Puts port room full → WantLeaves (bare v.arch) (Puts port room full) → Determines v s (by_room port room full b)
+room_determines : (v : View) (s : Shown) (port : ℕ) (room : Effect) (full : Option Effect) (b : Bool) → IsAwake v → request_at v ≡ Puts port room full → RequestLeaves (bare v.arch) (Puts port room full) → Determines v s (by_room port room full b)
 room_determines v s port room full true w e h = leaves_says v room w h.0
 room_determines v s port room (Some d) false w e h = leaves_says v d w (h.1 d refl)
 room_determines v s port room None false w e h = ap access_of e
 
-home_determines : (v : View) (s : Shown) (d : Deed) (b : Bool) → IsAwake v → want_of v ≡ Homes d → Leaves (bare v.arch) d → is_closed (bare v.arch) s.hopes ≡ b → Determines v s (if b then Ends else Does d)
-home_determines v s d true w e h c = record { awake = w; home = ap is_home e; shut = c }
-home_determines v s d false w e h c = leaves_says v d w h
+halt_loop_determines : (v : View) (s : Shown) (d : Effect) (b : Bool) → IsAwake v → request_at v ≡ HaltLoop d → Leaves (bare v.arch) d → is_closed (bare v.arch) s.hopes ≡ b → Determines v s (if b then Ends else Does d)
+halt_loop_determines v s d true w e h c = record { awake = w; halting = ap is_halt_loop e; shut = c }
+halt_loop_determines v s d false w e h c = leaves_says v d w h
 
-reply_determines : (v : View) (s : Shown) (x : Want) → IsAwake v → want_of v ≡ x → WantLeaves (bare v.arch) x → Determines v s (reply (bare v.arch) x s)
+reply_determines : (v : View) (s : Shown) (x : Request) → IsAwake v → request_at v ≡ x → RequestLeaves (bare v.arch) x → Determines v s (reply (bare v.arch) x s)
 reply_determines v s (Goes d) w e h = leaves_says v d w h
-reply_determines v s (Homes d) w e h = home_determines v s d (is_closed (bare v.arch) s.hopes) w e h refl
+reply_determines v s (HaltLoop d) w e h = halt_loop_determines v s d (is_closed (bare v.arch) s.hopes) w e h refl
 reply_determines v s (Gets port item empty) w e h = item_determines v s port item empty (s.first port) w e h
 reply_determines v s (Puts port room full) w e h = room_determines v s port room full (s.room port) w e h
 reply_determines v s (Reads addr answer) w e h = leaves_says v (answer (s.bus_word addr)) w (h (s.bus_word addr))
@@ -291,7 +291,7 @@ reply_determines v s (Writes addr word answer) w e h = leaves_says v (answer (s.
 
 awake_determines : (v : View) (s : Shown) (asleep : Bool) → v.arch.asleep ≡ asleep → v.arch.stopped ≡ None → Determines v s (awake (here_of v) (operands_of (here_of v) v.arch.regs) (bare v.arch) v.memory s asleep)
 awake_determines v s true a c = a
-awake_determines v s false a c = reply_determines v s (want_of v) (record { asleep = a; stopped = c }) refl (want_leaves (here_of v) (operands_of (here_of v) v.arch.regs) (bare v.arch) v.memory)
+awake_determines v s false a c = reply_determines v s (request_at v) (record { asleep = a; stopped = c }) refl (request_leaves (here_of v) (operands_of (here_of v) v.arch.regs) (bare v.arch) v.memory)
 
 take_says : (v : View) (t : Take) → v.arch.stopped ≡ None → SaysRest (takes (bare v.arch) t)
 take_says v t c = record {
@@ -310,10 +310,10 @@ due_determines : (v : View) (s : Shown) → Determines v s (due v s)
 unfolding due_with
 due_determines v s = by_determines v s (take_due (here_of v) (bare v.arch) s) v.arch.stopped refl
 
-pub act_says : (v : View) (s : Shown) (deed : Deed) → due v s ≡ Does deed → SaysRest deed
-act_says v s deed e = subst (Determines v s) e (due_determines v s)
+pub act_says : (v : View) (s : Shown) (effect : Effect) → due v s ≡ Does effect → SaysRest effect
+act_says v s effect e = subst (Determines v s) e (due_determines v s)
 
-pub waits_at : (v : View) (s : Shown) (port : ℕ) (full : Bool) → due v s ≡ Waits port full → access_of (want_of v) ≡ Some (record { port = port; full = full })
+pub waits_at : (v : View) (s : Shown) (port : ℕ) (full : Bool) → due v s ≡ Waits port full → access_of (request_at v) ≡ Some (record { port = port; full = full })
 waits_at v s port full e = subst (Determines v s) e (due_determines v s)
 
 pub sleeps_asleep : (v : View) (s : Shown) → due v s ≡ Sleeps → v.arch.asleep ≡ true

@@ -6,7 +6,7 @@ use Rattle.std.proofs.lemmas.List.{append-nil}
 use Rattle.std.proofs.lemmas.Option.{same_Some, slice_get-map}
 use Rattle.isa_step.specs.declared.acts.Breaks.{Breaks}
 use Rattle.isa_step.specs.declared.acts.Hopes.{Hopes}
-use Rattle.isa_step.specs.Deeds.{View}
+use Rattle.isa_step.specs.Effects.{View}
 use Rattle.board_file.specs.declared.board.BoardFile.{BoardFile}
 use Rattle.board_file.specs.declared.board.LinkRow.{LinkRow}
 use Rattle.run_journal.specs.declared.entry.Entry.{Entry}
@@ -18,7 +18,7 @@ use Rattle.board_machine.specs.DeviceMoves.{line_change, line_driven}
 use Rattle.board_machine.specs.Fabric.{Fabric, breaks_come, entered, entered_some, entry_of, given, has_come, hopes_at, host_moves, is_break, is_to_come, no_core, or_low, pending_after, shown}
 use Rattle.board_machine.specs.World.{CoreAt, Inputs, Schedule, Start, Step, Steps, World, acts_of, line_latched}
 use Rattle.board_machine.proofs.DeviceSteps.{done_enters}
-use Rattle.board_machine.proofs.Staying.{hoped}
+use Rattle.board_machine.proofs.Staying.{announced}
 use Rattle.board_machine.proofs.Steps.{moves_enter, steps_split}
 use Rattle.board_machine.proofs.Waits.{none_kept}
 use Rattle.journal_laws.specs.Laws.{KeepsPace, ProgressBoundHolds, RanCycles, order_of}
@@ -268,7 +268,7 @@ keeps_pace b views count w g = record {
   bound = λ i s v q r e. (
       let p = g.good.pace i s v q r in
       subst (λ n. ticks_below (order_of b) i n + 1 ≤ 64 * (s.acts + 1) + rests_below (order_of b) b.links v i w.fabric.journal n) g.cycle_is (elim p.bound [
-        | inl x ↦ absurd (e (gone_ends s.view (shown w.fabric i) (hoped w.fabric i) x))
+        | inl x ↦ absurd (e (gone_ends s.view (shown w.fabric i) (announced w.fabric i) x))
         | inr y ↦ (let t = p.ticks in omega (arith, y, t))
       ]));
 }

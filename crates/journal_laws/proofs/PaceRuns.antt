@@ -7,7 +7,7 @@ use Rattle.std.proofs.lemmas.Bool.{cases_eq}
 use Rattle.core_regs.specs.declared.causes.WaitOn.{WaitOn}
 use Rattle.isa_step.specs.declared.acts.Breaks.{Breaks}
 use Rattle.isa_step.specs.declared.acts.Hopes.{Hopes}
-use Rattle.isa_step.specs.Deeds.{View, Deed, Due, Does, Waits, Sleeps, Ends, Stops, after}
+use Rattle.isa_step.specs.Effects.{View, Effect, Due, Does, Waits, Sleeps, Ends, Stops, after}
 use Rattle.isa_step.specs.Due.{due}
 use Rattle.board_file.specs.declared.board.EventRow.{EventRow}
 use Rattle.board_file.specs.declared.board.LinkRow.{LinkRow}
@@ -16,12 +16,12 @@ use Rattle.run_journal.specs.declared.entry.What.{What}
 use Rattle.run_journal.specs.declared.entry.What.TheVariants.{Wait}
 use Rattle.board_machine.specs.declared.events.Event.TheVariants.{Tick}
 use Rattle.board_machine.specs.Bus.{DeviceRows}
-use Rattle.board_machine.specs.Fabric.{Fabric, act_leaves, entered, entries_of_action, entry_of_act, hopes_at, is_break, is_kept, is_on, kept_wait, or_none, shown}
+use Rattle.board_machine.specs.Fabric.{Fabric, act_leaves, entered, entries_of_action, entry_of_act, hopes_at, is_break, is_logged, is_on, logged_wait, or_none, shown}
 use Rattle.board_machine.specs.World.{CoreAt, IsAct, IsFilling, IsIdle, TickMay, TickStep, World}
-use Rattle.board_machine.proofs.Staying.{hoped}
+use Rattle.board_machine.proofs.Staying.{announced}
 use Rattle.board_machine.proofs.Tells.{which}
 use Rattle.journal_laws.specs.Progress.{ProgressBound, as_one, has, is_rest, is_shut, rests_below, rests_in, ticks_below}
-use Rattle.journal_laws.proofs.ActEntries.{TickOut, act_out, all_tick, deed_acts, deed_whats, none_waits, some_out, still_out}
+use Rattle.journal_laws.proofs.ActEntries.{TickOut, act_out, all_tick, effect_acts, effect_whats, none_waits, some_out, still_out}
 use Rattle.journal_laws.proofs.Asking.{wait_shows}
 use Rattle.journal_laws.proofs.Gone.{gone_acts, gone_waits}
 use Rattle.journal_laws.proofs.LinkRuns.{IsValidIn, none_stands, step_valid}
@@ -71,9 +71,9 @@ idles order rows i done rest was before is later t f w = subst (OwnTick order ro
   bound = inl refl;
 })
 
-acted : (core : ℕ) (deed : Deed) (was : CoreAt) (before : Fabric) (is : CoreAt) (later : Fabric) → IsAct core deed was before is later → SaysRest deed → Acted was is (entry_of_act deed.done.act)
-acted core deed was before is later f says =
-    let arch : is.view.arch ≡ (after was.view deed).arch = ap (λ (s : CoreAt). s.view.arch) f.state in
+acted : (core : ℕ) (effect : Effect) (was : CoreAt) (before : Fabric) (is : CoreAt) (later : Fabric) → IsAct core effect was before is later → SaysRest effect → Acted was is (entry_of_act effect.done.act)
+acted core effect was before is later f says =
+    let arch : is.view.arch ≡ (after was.view effect).arch = ap (λ (s : CoreAt). s.view.arch) f.state in
     record {
       acts = ap (λ (s : CoreAt). s.acts) f.state;
       ticks = ap (λ (s : CoreAt). s.ticks) f.state;
@@ -82,28 +82,28 @@ acted core deed was before is later f says =
       stopped = λ x. let h = says.stopped (ap (λ (a : _). is_some a.stopped) (sym arch) ∙ x) in (h.0, ap entry_of_act h.1);
     }
 
-does : (order : ℕ → List ℕ) (rows : List LinkRow) (i : ℕ) (done rest : List ℕ) (was : CoreAt) (before : Fabric) (is : CoreAt) (later : Fabric) (deed : Deed) → AtTick order i before.cycle done rest before.journal → due was.view (shown before i) ≡ Does deed → IsAct i deed was before is later → OwnTick order rows i done rest was before is later
-unfolding deed_whats
-does order rows i done rest was before is later deed t d f =
-    let o = act_out i was.acts deed before in
-    let never = gone_acts was.view (shown before i) deed (hoped before i) d in
-    let kept : kept_wait i (before.journal ++ made before.cycle i was.acts (deed_whats deed)) ≡ kept_wait i before.journal = none_waits i before.cycle was.acts before.journal (deed_whats deed) (deed_acts deed) in
+does : (order : ℕ → List ℕ) (rows : List LinkRow) (i : ℕ) (done rest : List ℕ) (was : CoreAt) (before : Fabric) (is : CoreAt) (later : Fabric) (effect : Effect) → AtTick order i before.cycle done rest before.journal → due was.view (shown before i) ≡ Does effect → IsAct i effect was before is later → OwnTick order rows i done rest was before is later
+unfolding effect_whats
+does order rows i done rest was before is later effect t d f =
+    let o = act_out i was.acts effect before in
+    let never = gone_acts was.view (shown before i) effect (announced before i) d in
+    let kept : logged_wait i (before.journal ++ made before.cycle i was.acts (effect_whats effect)) ≡ logged_wait i before.journal = none_waits i before.cycle was.acts before.journal (effect_whats effect) (effect_acts effect) in
     subst (OwnTick order rows i done rest was before is) (sym f.fabric) (record {
-      es = deed_whats deed;
-      all_tick = all_tick (deed_whats deed) (deed_acts deed);
+      es = effect_whats effect;
+      all_tick = all_tick (effect_whats effect) (effect_acts effect);
       out = o;
-      own = λ first p. subst (λ j. Pace order rows first i before.cycle (done ++ i ∷ []) j is (hopes_at (act_leaves i was.acts deed before) i)) (sym o.journal)
-          (act_pace order rows first i before.cycle done rest before.journal was is (hopes_at before i) (hopes_at (act_leaves i was.acts deed before) i) (option_to_list (entries_of_action deed.action)) (entry_of_act deed.done.act) t
-          (acted i deed was before is later f (act_says was.view (shown before i) deed d)) never kept p);
+      own = λ first p. subst (λ j. Pace order rows first i before.cycle (done ++ i ∷ []) j is (hopes_at (act_leaves i was.acts effect before) i)) (sym o.journal)
+          (act_pace order rows first i before.cycle done rest before.journal was is (hopes_at before i) (hopes_at (act_leaves i was.acts effect before) i) (option_to_list (entries_of_action effect.action)) (entry_of_act effect.done.act) t
+          (acted i effect was before is later f (act_says was.view (shown before i) effect d)) never kept p);
       bound = inr (λ first p. entry_bound order rows first i before.cycle done rest before.journal was (hopes_at before i) t never p);
     })
 
 waits : (order : ℕ → List ℕ) (rows : List LinkRow) (i : ℕ) (done rest : List ℕ) (was : CoreAt) (before : Fabric) (is : CoreAt) (later : Fabric) (on : WaitOn) (kept : Bool) → AtTick order i before.cycle done rest before.journal → due was.view (shown before i) ≡ Waits on.port on.full
-    → is_shut rows before.journal i on.port on.full ≡ true → is_kept i was.acts before.journal ≡ kept → IsIdle was (cond kept before (entered i was.acts (Wait on) before)) is later → OwnTick order rows i done rest was before is later
+    → is_shut rows before.journal i on.port on.full ≡ true → is_logged i was.acts before.journal ≡ kept → IsIdle was (cond kept before (entered i was.acts (Wait on) before)) is later → OwnTick order rows i done rest was before is later
 waits order rows i done rest was before is later on true t d shut k f =
-    idles order rows i done rest was before is later t f (λ first p. inr (kept_rests rows first i before.journal was.view on (p.kept (kept_is (kept_wait i before.journal) was.acts k)) (waits_at was.view (shown before i) on.port on.full d) shut))
+    idles order rows i done rest was before is later t f (λ first p. inr (kept_rests rows first i before.journal was.view on (p.kept (kept_is (logged_wait i before.journal) was.acts k)) (waits_at was.view (shown before i) on.port on.full d) shut))
 waits order rows i done rest was before is later on false t d shut k f =
-    let never = gone_waits was.view (shown before i) on.port on.full (hoped before i) d in
+    let never = gone_waits was.view (shown before i) on.port on.full (announced before i) d in
     subst (OwnTick order rows i done rest was before is) (sym f.fabric) (record {
       es = Wait on ∷ [];
       all_tick = (refl, tt);
@@ -113,12 +113,12 @@ waits order rows i done rest was before is later on false t d shut k f =
     })
 
 own_tick : (order : ℕ → List ℕ) (rows : List LinkRow) (i : ℕ) (done rest : List ℕ) (d : Due) (was : CoreAt) (before : Fabric) (is : CoreAt) (later : Fabric) → AtTick order i before.cycle done rest before.journal → IsValidIn before → before.rows ≡ rows → due was.view (shown before i) ≡ d → TickMay i d was before is later → OwnTick order rows i done rest was before is later
-own_tick order rows i done rest (Does deed) was before is later t law r d (inl a) = does order rows i done rest was before is later deed t d a
-own_tick order rows i done rest (Does deed) was before is later t law r d (inr f) = fills order rows i done rest was before is later t f
+own_tick order rows i done rest (Does effect) was before is later t law r d (inl a) = does order rows i done rest was before is later effect t d a
+own_tick order rows i done rest (Does effect) was before is later t law r d (inr f) = fills order rows i done rest was before is later t f
 own_tick order rows i done rest (Waits port full) was before is later t law r d (inl a) =
     let on : WaitOn = record { port = port; full = full } in
     let shut = shut_is before.rows before.journal i port full (none_stands before i port full law (wait_shows was.view (shown before i) port full d)) in
-    waits order rows i done rest was before is later on (is_kept i was.acts before.journal) t d (subst (λ rows. is_shut rows before.journal i port full ≡ true) r shut) refl a
+    waits order rows i done rest was before is later on (is_logged i was.acts before.journal) t d (subst (λ rows. is_shut rows before.journal i port full ≡ true) r shut) refl a
 own_tick order rows i done rest (Waits port full) was before is later t law r d (inr f) = fills order rows i done rest was before is later t f
 own_tick order rows i done rest Sleeps was before is later t law r d a = idles order rows i done rest was before is later t a (λ first p. inr (asleep_rests rows first i before.journal (p.asleep (sleeps_asleep was.view (shown before i) d))))
 own_tick order rows i done rest Ends was before is later t law r d a = idles order rows i done rest was before is later t a (λ first p. inl (ends_gone was.view (shown before i) d))

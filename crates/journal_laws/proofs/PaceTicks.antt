@@ -8,14 +8,14 @@ use Rattle.std.proofs.lemmas.Option.{same_Some}
 use Rattle.core_regs.specs.declared.causes.StopCause.{StopCause}
 use Rattle.core_regs.specs.declared.causes.WaitOn.{WaitOn}
 use Rattle.isa_step.specs.declared.acts.Hopes.{Hopes}
-use Rattle.isa_step.specs.Deeds.{View}
+use Rattle.isa_step.specs.Effects.{View}
 use Rattle.board_file.specs.declared.board.LinkRow.{LinkRow}
 use Rattle.run_journal.specs.declared.entry.Entry.{Entry}
 use Rattle.run_journal.specs.declared.entry.What.{What}
 use Rattle.run_journal.specs.declared.entry.What.TheVariants.{Slept, Stopped, Wait}
-use Rattle.board_machine.specs.Fabric.{entry_of, kept_wait}
+use Rattle.board_machine.specs.Fabric.{entry_of, logged_wait}
 use Rattle.board_machine.specs.World.{CoreAt}
-use Rattle.machine_laws.specs.Holding.{want_of}
+use Rattle.machine_laws.specs.Holding.{request_at}
 use Rattle.journal_laws.specs.LinkLaw.{IsShut}
 use Rattle.journal_laws.specs.Progress.{ProgressBound, as_one, asleep_by, asleep_recorded, before_tick, by_tick, comes_before, has, is_own, is_rest, is_shut, kept_by, rests_below, rests_in, stopped_by, stopped_recorded, through_tick, ticks_below, wait_recorded, waits_still}
 use Rattle.journal_laws.proofs.Lists.{cons_append, filter_more, filter_skips}
@@ -67,7 +67,7 @@ shut_is rows journal i port true h = eq-eqb _ _ h
 shut_is rows journal i port false h = eq-eqb _ _ (ap length h)
 
 -- a tick in a wait that is kept
-pub kept_rests : (rows : List LinkRow) (first : View) (i : ℕ) (journal : List Entry) (v : View) (on : WaitOn) → WaitsAt i v journal → access_of (want_of v) ≡ Some on → is_shut rows journal i on.port on.full ≡ true → rests_in rows first i journal journal ≡ true
+pub kept_rests : (rows : List LinkRow) (first : View) (i : ℕ) (journal : List Entry) (v : View) (on : WaitOn) → WaitsAt i v journal → access_of (request_at v) ≡ Some on → is_shut rows journal i on.port on.full ≡ true → rests_in rows first i journal journal ≡ true
 kept_rests rows first i journal v on k b h =
     let same : k.on ≡ on = same_Some _ _ (sym k.access ∙ b) in
     waits_rest rows first i journal journal on (k.entry ∙ ap Some same) h
@@ -135,14 +135,14 @@ idle_pace order rows first i c done rest journal s n hopes t r l w p = record {
 
 -- a tick that enters its wait
 pub wait_pace : (order : ℕ → List ℕ) (rows : List LinkRow) (first : View) (i c : ℕ) (done rest : List ℕ) (journal : List Entry) (s n : CoreAt) (hopes : Hopes) (on : WaitOn) → AtTick order i c done rest journal → Rested s n → n.slack ≡ s.slack → (Gone s.view hopes → ⊥)
-    → access_of (want_of s.view) ≡ Some on → is_shut rows journal i on.port on.full ≡ true → Pace order rows first i c done journal s hopes → Pace order rows first i c (done ++ i ∷ []) (journal ++ entry_of c i s.acts (Wait on) ∷ []) n hopes
+    → access_of (request_at s.view) ≡ Some on → is_shut rows journal i on.port on.full ≡ true → Pace order rows first i c done journal s hopes → Pace order rows first i c (done ++ i ∷ []) (journal ++ entry_of c i s.acts (Wait on) ∷ []) n hopes
 wait_pace order rows first i c done rest journal s n hopes on t r l never b q p =
     let e : Entry = entry_of c i s.acts (Wait on) in
     let same = eq-eqb i i refl in
     let kept : wait_recorded i (journal ++ e ∷ []) ≡ Some on = recorded_more kept_by i None journal e ∙ ap (λ t. cond t (Some on) (wait_recorded i journal)) same in
     let a : asleep_recorded first i (journal ++ e ∷ []) ≡ asleep_recorded first i journal = recorded_more asleep_by i first.arch.asleep journal e ∙ ap (λ t. cond t (asleep_recorded first i journal) (asleep_recorded first i journal)) same in
     let d : stopped_recorded first i (journal ++ e ∷ []) ≡ stopped_recorded first i journal = recorded_more stopped_by i (is_some first.arch.stopped) journal e ∙ ap (λ t. cond t (stopped_recorded first i journal) (stopped_recorded first i journal)) same in
-    let last : kept_wait i (journal ++ e ∷ []) ≡ Some s.acts = kept_more i journal e ∙ ap (λ t. cond (t && true) (Some s.acts) (kept_wait i journal)) same in
+    let last : logged_wait i (journal ++ e ∷ []) ≡ Some s.acts = kept_more i journal e ∙ ap (λ t. cond (t && true) (Some s.acts) (logged_wait i journal)) same in
     record {
       ticks = ticks_now order i c done s n t.fresh r.ticks p.ticks;
       slack = (let x = p.slack in omega (arith, x, l));
@@ -158,7 +158,7 @@ wait_pace order rows first i c done rest journal s n hopes on t r l never b q p 
       asleep = λ x. a ∙ p.asleep (ap (λ (v : View). v.arch.asleep) (sym r.view) ∙ x);
       stopped = λ x. d ∙ p.stopped (ap (λ (v : View). is_some v.arch.stopped) (sym r.view) ∙ x);
       within = λ act x. (let y : s.acts ≡ act = same_Some _ _ (sym last ∙ x) in let u = r.acts in omega (arith, y, u));
-      kept = λ x. record { on = on; access = ap (λ (v : View). access_of (want_of v)) r.view ∙ b; entry = kept };
+      kept = λ x. record { on = on; access = ap (λ (v : View). access_of (request_at v)) r.view ∙ b; entry = kept };
     }
 
 -- entries of one tick
@@ -202,7 +202,7 @@ stop_recorded first c i act journal es last cause q =
     ∙ ap (λ t. cond t true (stopped_recorded first i (journal ++ made c i act es))) (eq-eqb i i refl)
 
 pub act_pace : (order : ℕ → List ℕ) (rows : List LinkRow) (first : View) (i c : ℕ) (done rest : List ℕ) (journal : List Entry) (s n : CoreAt) (hopes later : Hopes) (es : List What) (last : Option What) → AtTick order i c done rest journal → Acted s n last → (Gone s.view hopes → ⊥)
-    → kept_wait i (journal ++ made c i s.acts (es ++ option_to_list last)) ≡ kept_wait i journal → Pace order rows first i c done journal s hopes → Pace order rows first i c (done ++ i ∷ []) (journal ++ made c i s.acts (es ++ option_to_list last)) n later
+    → logged_wait i (journal ++ made c i s.acts (es ++ option_to_list last)) ≡ logged_wait i journal → Pace order rows first i c done journal s hopes → Pace order rows first i c (done ++ i ∷ []) (journal ++ made c i s.acts (es ++ option_to_list last)) n later
 act_pace order rows first i c done rest journal s n hopes later es last t r never k p = record {
   ticks = ticks_now order i c done s n t.fresh r.ticks p.ticks;
   slack = r.slack;

@@ -5,14 +5,14 @@ use Rattle.std.proofs.lemmas.Bool.{ne_eqb}
 use Rattle.std.proofs.lemmas.List.Sums.{fold-append}
 use Rattle.core_regs.specs.declared.causes.WaitOn.{WaitOn}
 use Rattle.isa_step.specs.declared.acts.Hopes.{Hopes}
-use Rattle.isa_step.specs.Deeds.{View}
+use Rattle.isa_step.specs.Effects.{View}
 use Rattle.board_file.specs.declared.board.LinkRow.{LinkRow}
 use Rattle.run_journal.specs.declared.entry.Entry.{Entry}
 use Rattle.run_journal.specs.declared.entry.What.{What}
 use Rattle.run_journal.specs.declared.entry.What.TheVariants.{LineUp, LineDown, HostSent, HostGot, Left}
-use Rattle.board_machine.specs.Fabric.{is_wait, kept_after, kept_wait}
+use Rattle.board_machine.specs.Fabric.{is_wait, kept_after, logged_wait}
 use Rattle.board_machine.specs.World.{CoreAt}
-use Rattle.machine_laws.specs.Holding.{want_of}
+use Rattle.machine_laws.specs.Holding.{request_at}
 use Rattle.journal_laws.specs.Progress.{as_one, asleep_by, asleep_recorded, by_tick, has, is_rest, kept_by, rests_below, stopped_by, stopped_recorded, ticks_below, wait_recorded}
 use Rattle.journal_laws.proofs.Outcomes.{Gone, access_of}
 use Rattle.journal_laws.proofs.Pace.{IsLate, rests_late, tick_late, recorded_more}
@@ -20,7 +20,7 @@ use Rattle.journal_laws.proofs.Pace.{IsLate, rests_late, tick_late, recorded_mor
 -- the wait that a journal tells is the one at which a view waits
 pub record WaitsAt (i : ℕ) (v : View) (journal : List Entry) : Type 0 where
   pub on : WaitOn
-  pub access : access_of (want_of v) ≡ Some on
+  pub access : access_of (request_at v) ≡ Some on
   pub entry : wait_recorded i journal ≡ Some on
 
 -- where the cores of `done` have ticked in cycle c
@@ -30,11 +30,11 @@ pub record Pace (order : ℕ → List ℕ) (rows : List LinkRow) (first : View) 
   pub bound : Gone s.view hopes ⊎ (s.ticks + s.slack ≤ 64 * s.acts + 63 + rests_below order rows first i journal c + as_one (has i done && is_rest order rows first i c journal))
   pub asleep : s.view.arch.asleep ≡ true → asleep_recorded first i journal ≡ true
   pub stopped : is_some s.view.arch.stopped ≡ true → stopped_recorded first i journal ≡ true
-  pub within : (act : ℕ) → kept_wait i journal ≡ Some act → act ≤ s.acts
-  pub kept : kept_wait i journal ≡ Some s.acts → WaitsAt i s.view journal
+  pub within : (act : ℕ) → logged_wait i journal ≡ Some act → act ≤ s.acts
+  pub kept : logged_wait i journal ≡ Some s.acts → WaitsAt i s.view journal
 
-pub kept_more : (i : ℕ) (journal : List Entry) (e : Entry) → kept_wait i (journal ++ e ∷ []) ≡ kept_after i (kept_wait i journal) e
-unfolding kept_wait
+pub kept_more : (i : ℕ) (journal : List Entry) (e : Entry) → logged_wait i (journal ++ e ∷ []) ≡ kept_after i (logged_wait i journal) e
+unfolding logged_wait
 kept_more i journal e = fold-append (kept_after i) None journal (e ∷ [])
 
 -- an entry that says nothing of core i
@@ -94,7 +94,7 @@ pub other_pace : (order : ℕ → List ℕ) (rows : List LinkRow) (first : View)
 other_pace order rows first i c done journal s hopes e le o l p =
     let r = rests_late order rows first i c journal e le in
     let t = once_late order rows first i c journal e (has i done) l in
-    let k = kept_more i journal e ∙ o.wait (kept_wait i journal) in
+    let k = kept_more i journal e ∙ o.wait (logged_wait i journal) in
     record {
       ticks = p.ticks;
       slack = p.slack;

@@ -12,9 +12,9 @@ use Rattle.isa_step.specs.declared.acts.Act.TheVariants as acts
 use Rattle.isa_step.specs.declared.acts.Action.{Action}
 use Rattle.isa_step.specs.declared.acts.Action.TheVariants as action
 use Rattle.isa_step.specs.Shown.{Shown}
-use Rattle.isa_step.specs.Deeds.{View, Deed, Due, Does, Waits, Sleeps, Ends, Stops, Want, Goes, Homes, Gets, Puts, Reads, Writes}
+use Rattle.isa_step.specs.Effects.{View, Effect, Due, Does, Waits, Sleeps, Ends, Stops, Request, Goes, HaltLoop, Gets, Puts, Reads, Writes}
 use Rattle.isa_step.specs.Due.{due}
-use Rattle.isa_step.specs.History.{answered, deed_told, exactly}
+use Rattle.isa_step.specs.History.{answered, effect_told, exactly}
 use Rattle.isa_step.proofs.Telling.{is_told}
 use Rattle.board_file.specs.declared.board.BoardFile.{BoardFile}
 use Rattle.run_journal.specs.declared.entry.Entry.{Entry}
@@ -22,18 +22,18 @@ use Rattle.run_journal.specs.declared.entry.What.{What}
 use Rattle.run_journal.specs.declared.entry.What.TheVariants.{Took, Slept, Stopped, Wait, LineUp, LineDown, HostSent, HostGot, Left}
 use Rattle.board_machine.specs.declared.events.Event.{Event}
 use Rattle.board_machine.specs.declared.events.Event.TheVariants.{Devices, Host, Tick, Next}
-use Rattle.board_machine.specs.Fabric.{Fabric, entered, entries_of_action, entry_of, entry_of_act, entry_of_action, is_act, is_kept, kept_wait, shown, waited}
+use Rattle.board_machine.specs.Fabric.{Fabric, entered, entries_of_action, entry_of, entry_of_act, entry_of_action, is_act, is_logged, logged_wait, shown, waited}
 use Rattle.board_machine.specs.World.{CoreAt, Inputs, IsAct, Reached, Start, Step, Steps, TickMay, TickStep, World}
 use Rattle.board_machine.proofs.Steps.{steps_push}
 use Rattle.board_machine.proofs.Tells.{which}
 use Rattle.board_machine.proofs.Waits.{none_kept}
-use Rattle.machine_laws.specs.Holding.{IsAtWait, WaitsHold, can_wait, want_of}
+use Rattle.machine_laws.specs.Holding.{IsAtWait, WaitsHold, can_wait, request_at}
 use Rattle.machine_laws.specs.Stamps.{IsStamped, maker}
 use Rattle.machine_laws.proofs.Holding.{each_state_holds}
 use Rattle.machine_laws.proofs.Stamping.{step_stamped}
 use Rattle.journal_laws.specs.Laws.{IsRecorded, RestIsRecorded}
 use Rattle.journal_laws.specs.Progress.{asleep_by, asleep_recorded, by_tick, kept_by, stopped_by, stopped_recorded, wait_recorded}
-use Rattle.journal_laws.proofs.ActEntries.{IsByAct, act_out, deed_acts, deed_whats, none_waits}
+use Rattle.journal_laws.proofs.ActEntries.{IsByAct, act_out, effect_acts, effect_whats, none_waits}
 use Rattle.journal_laws.proofs.Asking.{act_splits}
 use Rattle.journal_laws.proofs.Lists.{cons_append}
 use Rattle.journal_laws.proofs.Outcomes.{SaysRest, act_says}
@@ -47,7 +47,7 @@ other_recorded : (first : View) (i : ℕ) (s : CoreAt) (journal : List Entry) (e
 other_recorded first i s journal e o k = record {
   asleep = recorded_more asleep_by i first.arch.asleep journal e ∙ o.asleep (asleep_recorded first i journal) ∙ k.asleep;
   stopped = recorded_more stopped_by i (is_some first.arch.stopped) journal e ∙ o.stopped (stopped_recorded first i journal) ∙ k.stopped;
-  waits = ap is_some (recorded_more kept_by i None journal e ∙ o.kept (wait_recorded i journal)) ∙ k.waits ∙ ap (λ w. is_act w s.acts) (sym (kept_more i journal e ∙ o.wait (kept_wait i journal)));
+  waits = ap is_some (recorded_more kept_by i None journal e ∙ o.kept (wait_recorded i journal)) ∙ k.waits ∙ ap (λ w. is_act w s.acts) (sym (kept_more i journal e ∙ o.wait (logged_wait i journal)));
 }
 
 tick_made : (core : ℕ) (what : What) → by_tick what ≡ true → maker core what ≡ Tick core
@@ -99,11 +99,11 @@ alike true false f g = let z : false ≡ true = f refl in cc
 alike false true f g = let z : false ≡ true = g refl in cc
 alike false false f g = refl
 
-slept_so : (d : Deed) → SaysRest d → is_slept d.done.act ≡ d.arch.asleep
+slept_so : (d : Effect) → SaysRest d → is_slept d.done.act ≡ d.arch.asleep
 unfolding is_slept
 slept_so d says = alike (is_slept d.done.act) d.arch.asleep (λ h. says.sleeps (slept_is d.done.act h)) (λ h. ap is_slept (says.asleep h))
 
-halted_so : (d : Deed) → SaysRest d → is_halted d.done.act ≡ is_some d.arch.stopped
+halted_so : (d : Effect) → SaysRest d → is_halted d.done.act ≡ is_some d.arch.stopped
 unfolding is_halted
 halted_so d says = alike (is_halted d.done.act) (is_some d.arch.stopped) (λ h. let c = halted_is d.done.act h in says.halts c.0 c.1) (λ h. let c = says.stopped h in ap is_halted c.1)
 
@@ -165,14 +165,14 @@ act_stopped first c i act journal (acts.Stopped cause) h = own_stopped first c i
 in_turn : (c i act : ℕ) (journal : List Entry) (xs ys : List What) → journal ++ made c i act (xs ++ ys) ≡ (journal ++ made c i act xs) ++ made c i act ys
 in_turn c i act journal xs ys = ap (λ es. journal ++ es) (map-append (entry_of c i act) xs ys) ∙ sym (append_assoc journal (made c i act xs) (made c i act ys))
 
-record RestOf (first : View) (i : ℕ) (d : Deed) (journal : List Entry) : Type 0 where
+record RestOf (first : View) (i : ℕ) (d : Effect) (journal : List Entry) : Type 0 where
   asleep : asleep_recorded first i journal ≡ d.arch.asleep
   stopped : stopped_recorded first i journal ≡ is_some d.arch.stopped
 
-deed_rest : (first : View) (c i act : ℕ) (journal : List Entry) (d : Deed) → SaysRest d
-    → asleep_recorded first i (journal ++ made c i act (option_to_list (entries_of_action d.action))) ≡ false → stopped_recorded first i journal ≡ false → RestOf first i d (journal ++ made c i act (deed_whats d))
-unfolding deed_whats
-deed_rest first c i act journal d says a s =
+effect_rest : (first : View) (c i act : ℕ) (journal : List Entry) (d : Effect) → SaysRest d
+    → asleep_recorded first i (journal ++ made c i act (option_to_list (entries_of_action d.action))) ≡ false → stopped_recorded first i journal ≡ false → RestOf first i d (journal ++ made c i act (effect_whats d))
+unfolding effect_whats
+effect_rest first c i act journal d says a s =
     let xs = option_to_list (entries_of_action d.action) in
     let ys = option_to_list (entry_of_act d.done.act) in
     let half = journal ++ made c i act xs in
@@ -181,14 +181,14 @@ deed_rest first c i act journal d says a s =
       stopped = ap (stopped_recorded first i) (in_turn c i act journal xs ys) ∙ act_stopped first c i act half d.done.act (ports_stopped first c i act journal d.action ∙ s) ∙ halted_so d says;
     }
 
-take_rest : (first : View) (c i : ℕ) (s : CoreAt) (journal : List Entry) (sh : Shown) (d : Deed) → due s.view sh ≡ Does d → IsRecorded first i s journal → RestOf first i d (journal ++ made c i s.acts (deed_whats d))
+take_rest : (first : View) (c i : ℕ) (s : CoreAt) (journal : List Entry) (sh : Shown) (d : Effect) → due s.view sh ≡ Does d → IsRecorded first i s journal → RestOf first i d (journal ++ made c i s.acts (effect_whats d))
 take_rest first c i s journal sh d e k = elim (act_splits s.view sh d e) [
   | inl t ↦
-      deed_rest first c i s.acts journal d (act_says s.view sh d e)
-      (subst (λ (d : Deed). asleep_recorded first i (journal ++ made c i s.acts (option_to_list (entries_of_action d.action))) ≡ false) (sym t.is) (own_asleep first c i s.acts journal (Took t.take)))
+      effect_rest first c i s.acts journal d (act_says s.view sh d e)
+      (subst (λ (d : Effect). asleep_recorded first i (journal ++ made c i s.acts (option_to_list (entries_of_action d.action))) ≡ false) (sym t.is) (own_asleep first c i s.acts journal (Took t.take)))
       (k.stopped ∙ ap is_some t.runs)
   | inr n ↦
-      deed_rest first c i s.acts journal d (act_says s.view sh d e)
+      effect_rest first c i s.acts journal d (act_says s.view sh d e)
       (ports_asleep first c i s.acts journal d.action (k.asleep ∙ n.awake.asleep))
       (k.stopped ∙ ap is_some n.awake.stopped)
 ]
@@ -211,22 +211,22 @@ waits_cleared c i act journal (what ∷ es) h n =
     ap (λ j. is_some (wait_recorded i j)) (sym (cons_append journal (made c i act es) e))
     ∙ waits_cleared c i act (journal ++ e ∷ []) es h.1 (λ z. ap is_some (own_wait c i act journal what ∙ cleared (wait_recorded i journal) what h.0))
 
-no_answer : (w : Want) → can_wait w ≡ true → answered w [] ≡ None
+no_answer : (w : Request) → can_wait w ≡ true → answered w [] ≡ None
 no_answer (Gets port item None) h = refl
 no_answer (Gets port item (Some d)) h = cc
 no_answer (Puts port room None) h = refl
 no_answer (Puts port room (Some d)) h = cc
 no_answer (Goes d) h = cc
-no_answer (Homes d) h = cc
+no_answer (HaltLoop d) h = cc
 no_answer (Reads addr answer) h = cc
 no_answer (Writes addr word answer) h = cc
 
 -- a core that waits does no act without an entry
-wait_acts : (v : View) (s : Shown) (d : Deed) → IsAtWait v → due v s ≡ Does d → d.action ≡ None → ⊥
-unfolding deed_told
+wait_acts : (v : View) (s : Shown) (d : Effect) → IsAtWait v → due v s ≡ Does d → d.action ≡ None → ⊥
+unfolding effect_told
 wait_acts v s d w e n =
-    let t : deed_told v [] ≡ Some d = ap (λ a. deed_told v (option_to_list a)) (sym n) ∙ is_told.told v s d e in
-    let z : None ≡ Some d = sym (ap (exactly []) (no_answer (want_of v) w.waits)) ∙ t in
+    let t : effect_told v [] ≡ Some d = ap (λ a. effect_told v (option_to_list a)) (sym n) ∙ is_told.told v s d e in
+    let z : None ≡ Some d = sym (ap (exactly []) (no_answer (request_at v) w.waits)) ∙ t in
     cc
 
 no_action : (o : Option Action) (ys : List What) → option_to_list (entries_of_action o) ++ ys ≡ [] → o ≡ None
@@ -241,26 +241,26 @@ not_true_is : (b : Bool) → (b ≡ true → ⊥) → b ≡ false
 not_true_is false n = refl
 not_true_is true n = absurd (n refl)
 
-silent_waits : (i : ℕ) (s : CoreAt) (journal : List Entry) (sh : Shown) (d : Deed) → due s.view sh ≡ Does d → WaitsHold i s journal → deed_whats d ≡ [] → is_kept i s.acts journal ≡ false
-unfolding deed_whats
-silent_waits i s journal sh d e h z = not_true_is (is_kept i s.acts journal) (λ k. wait_acts s.view sh d (h.waits (kept_is (kept_wait i journal) s.acts k)) e (no_action d.action (option_to_list (entry_of_act d.done.act)) z))
+silent_waits : (i : ℕ) (s : CoreAt) (journal : List Entry) (sh : Shown) (d : Effect) → due s.view sh ≡ Does d → WaitsHold i s journal → effect_whats d ≡ [] → is_logged i s.acts journal ≡ false
+unfolding effect_whats
+silent_waits i s journal sh d e h z = not_true_is (is_logged i s.acts journal) (λ k. wait_acts s.view sh d (h.waits (kept_is (logged_wait i journal) s.acts k)) e (no_action d.action (option_to_list (entry_of_act d.done.act)) z))
 
 not_later : (o : Option ℕ) (acts : ℕ) → ((act : ℕ) → o ≡ Some act → act ≤ acts) → is_act o (acts + 1) ≡ false
 not_later None acts h = refl
 not_later (Some a) acts h = let l = h a refl in ne_eqb a (acts + 1) (λ z. omega (arith, l, z))
 
-act_recorded : (first : View) (i : ℕ) (d : Deed) (old new : CoreAt) (f g : Fabric) → due old.view (shown f i) ≡ Does d → IsAct i d old f new g → WaitsHold i old f.journal → IsRecorded first i old f.journal → IsRecorded first i new g.journal
+act_recorded : (first : View) (i : ℕ) (d : Effect) (old new : CoreAt) (f g : Fabric) → due old.view (shown f i) ≡ Does d → IsAct i d old f new g → WaitsHold i old f.journal → IsRecorded first i old f.journal → IsRecorded first i new g.journal
 act_recorded first i d old new f g e h w k =
-    let es = deed_whats d in
+    let es = effect_whats d in
     let j : g.journal ≡ f.journal ++ made f.cycle i old.acts es = ap (λ (x : Fabric). x.journal) h.fabric ∙ (act_out i old.acts d f).journal in
     let r = take_rest first f.cycle i old f.journal (shown f i) d e k in
     let a : new.acts ≡ old.acts + 1 = ap (λ (s : CoreAt). s.acts) h.state in
-    let none : is_some (wait_recorded i (f.journal ++ made f.cycle i old.acts es)) ≡ false = waits_cleared f.cycle i old.acts f.journal es (deed_acts d) (λ z. k.waits ∙ silent_waits i old f.journal (shown f i) d e w z) in
-    let last : kept_wait i (f.journal ++ made f.cycle i old.acts es) ≡ kept_wait i f.journal = none_waits i f.cycle old.acts f.journal es (deed_acts d) in
+    let none : is_some (wait_recorded i (f.journal ++ made f.cycle i old.acts es)) ≡ false = waits_cleared f.cycle i old.acts f.journal es (effect_acts d) (λ z. k.waits ∙ silent_waits i old f.journal (shown f i) d e w z) in
+    let last : logged_wait i (f.journal ++ made f.cycle i old.acts es) ≡ logged_wait i f.journal = none_waits i f.cycle old.acts f.journal es (effect_acts d) in
     subst (IsRecorded first i new) (sym j) (record {
       asleep = r.asleep ∙ sym (ap (λ (s : CoreAt). s.view.arch.asleep) h.state);
       stopped = r.stopped ∙ sym (ap (λ (s : CoreAt). is_some s.view.arch.stopped) h.state);
-      waits = none ∙ sym (ap (λ n. is_act (kept_wait i (f.journal ++ made f.cycle i old.acts es)) n) a ∙ ap (λ o. is_act o (old.acts + 1)) last ∙ not_later (kept_wait i f.journal) old.acts w.kept);
+      waits = none ∙ sym (ap (λ n. is_act (logged_wait i (f.journal ++ made f.cycle i old.acts es)) n) a ∙ ap (λ o. is_act o (old.acts + 1)) last ∙ not_later (logged_wait i f.journal) old.acts w.kept);
     })
 
 -- a tick without an act
@@ -269,14 +269,14 @@ same_recorded : (first : View) (i : ℕ) (old new : CoreAt) (f g : Fabric) → n
 same_recorded first i old new f g v a e k = subst (λ (x : Fabric). IsRecorded first i new x.journal) (sym e) (record {
   asleep = k.asleep ∙ ap (λ (v : View). v.arch.asleep) (sym v);
   stopped = k.stopped ∙ ap (λ (v : View). is_some v.arch.stopped) (sym v);
-  waits = k.waits ∙ ap (λ n. is_kept i n f.journal) (sym a);
+  waits = k.waits ∙ ap (λ n. is_logged i n f.journal) (sym a);
 })
 
 wait_entered : (first : View) (i : ℕ) (s : CoreAt) (on : WaitOn) (f : Fabric) (b : Bool) → IsRecorded first i s f.journal → IsRecorded first i s (cond b f (entered i s.acts (Wait on) f)).journal
 wait_entered first i s on f true k = k
 wait_entered first i s on f false k =
     let e : Entry = entry_of f.cycle i s.acts (Wait on) in
-    let last : kept_wait i (f.journal ++ e ∷ []) ≡ Some s.acts = kept_more i f.journal e ∙ ap (λ t. cond (t && true) (Some s.acts) (kept_wait i f.journal)) (eq-eqb i i refl) in
+    let last : logged_wait i (f.journal ++ e ∷ []) ≡ Some s.acts = kept_more i f.journal e ∙ ap (λ t. cond (t && true) (Some s.acts) (logged_wait i f.journal)) (eq-eqb i i refl) in
     record {
       asleep = own_asleep first f.cycle i s.acts f.journal (Wait on) ∙ k.asleep;
       stopped = own_stopped first f.cycle i s.acts f.journal (Wait on) ∙ k.stopped;
@@ -288,7 +288,7 @@ tick_recorded first i (Does d) old new f g e (inl h) w k = act_recorded first i 
 tick_recorded first i (Does d) old new f g e (inr h) w k = same_recorded first i old new f g (ap (λ (s : CoreAt). s.view) h.state) (ap (λ (s : CoreAt). s.acts) h.state) h.fabric k
 tick_recorded first i (Waits port full) old new f g e (inl h) w k =
     let on : WaitOn = record { port = port; full = full } in
-    same_recorded first i old new (waited i old.acts on f) g (ap (λ (s : CoreAt). s.view) h.state) (ap (λ (s : CoreAt). s.acts) h.state) h.fabric (wait_entered first i old on f (is_kept i old.acts f.journal) k)
+    same_recorded first i old new (waited i old.acts on f) g (ap (λ (s : CoreAt). s.view) h.state) (ap (λ (s : CoreAt). s.acts) h.state) h.fabric (wait_entered first i old on f (is_logged i old.acts f.journal) k)
 tick_recorded first i (Waits port full) old new f g e (inr h) w k = same_recorded first i old new f g (ap (λ (s : CoreAt). s.view) h.state) (ap (λ (s : CoreAt). s.acts) h.state) h.fabric k
 tick_recorded first i Sleeps old new f g e h w k = same_recorded first i old new f g (ap (λ (s : CoreAt). s.view) h.state) (ap (λ (s : CoreAt). s.acts) h.state) h.fabric k
 tick_recorded first i Ends old new f g e h w k = same_recorded first i old new f g (ap (λ (s : CoreAt). s.view) h.state) (ap (λ (s : CoreAt). s.acts) h.state) h.fabric k

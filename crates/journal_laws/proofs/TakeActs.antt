@@ -13,7 +13,7 @@ use Rattle.isa_step.specs.declared.acts.Action.{Action}
 use Rattle.isa_step.specs.declared.acts.Action.TheVariants as action
 use Rattle.isa_step.specs.declared.acts.Breaks.{Breaks}
 use Rattle.isa_step.specs.Shown.{Shown}
-use Rattle.isa_step.specs.Deeds.{View, Deed, Does}
+use Rattle.isa_step.specs.Effects.{View, Effect, Does}
 use Rattle.isa_step.specs.Due.{due, here_of, is_masked, pick, take_by, take_due}
 use Rattle.board_file.specs.declared.board.EventRow.{EventRow}
 use Rattle.run_journal.specs.declared.entry.Entry.{Entry}
@@ -187,14 +187,14 @@ none_passed : (view : View) (s : Shown) → take_due (here_of view) (bare view.a
 unfolding take_due
 none_passed view s h = none_due (bare view.arch) s (may_take_at view) h
 
-instruction_account : (breaks : List EventRow) (first : View) (core acts : ℕ) (line : Bool) (view : View) (f : Fabric) (deed : Deed) → IsWired f → IsInstruction view (shown f core) deed
-    → tape f.journal core acts ≡ [] → view_told first f.journal core acts ≡ Some view → Account breaks first core acts line f → Account breaks first core (acts + 1) line (act_leaves core acts deed f)
+instruction_account : (breaks : List EventRow) (first : View) (core acts : ℕ) (line : Bool) (view : View) (f : Fabric) (effect : Effect) → IsWired f → IsInstruction view (shown f core) effect
+    → tape f.journal core acts ≡ [] → view_told first f.journal core acts ≡ Some view → Account breaks first core acts line f → Account breaks first core (acts + 1) line (act_leaves core acts effect f)
 unfolding any_take
-instruction_account breaks first core acts line view f deed w i n t a =
+instruction_account breaks first core acts line view f effect w i n t a =
     let m : Midst breaks first core acts line view f = record { account = a; determined = t; untaken = ap any_take n } in
-    let half = some_midst breaks first core acts line view f (entries_of_action deed.action) (actions_plain (shown f core) deed.action i.agrees) m in
-    let all = some_midst breaks first core acts line view (entered_some core acts (entries_of_action deed.action) f) (entry_of_act deed.done.act) (act_plain deed.done.act) half in
-    let g = act_leaves core acts deed f in
+    let half = some_midst breaks first core acts line view f (entries_of_action effect.action) (actions_plain (shown f core) effect.action i.agrees) m in
+    let all = some_midst breaks first core acts line view (entered_some core acts (entries_of_action effect.action) f) (entry_of_act effect.done.act) (act_plain effect.done.act) half in
+    let g = act_leaves core acts effect f in
     ends breaks first core acts line g (record {
       view = view;
       determined = all.determined;
@@ -315,9 +315,9 @@ take_account breaks first core acts line view f t w d n v a =
       passes = λ h. let z : false ≡ true = ap no_take (sym own) ∙ h in cc;
     }) all
 
-pub act_account : (breaks : List EventRow) (first : View) (core acts : ℕ) (line : Bool) (view : View) (f : Fabric) (deed : Deed) → IsWired f → due view (shown f core) ≡ Does deed
-    → tape f.journal core acts ≡ [] → view_told first f.journal core acts ≡ Some view → Account breaks first core acts line f → Account breaks first core (acts + 1) line (act_leaves core acts deed f)
-act_account breaks first core acts line view f deed w d n v a = elim (act_splits view (shown f core) deed d) [
-  | inl t ↦ subst (λ deed. Account breaks first core (acts + 1) line (act_leaves core acts deed f)) (sym t.is) (take_account breaks first core acts line view f t.take w t.due n v a)
-  | inr i ↦ instruction_account breaks first core acts line view f deed w i n v a
+pub act_account : (breaks : List EventRow) (first : View) (core acts : ℕ) (line : Bool) (view : View) (f : Fabric) (effect : Effect) → IsWired f → due view (shown f core) ≡ Does effect
+    → tape f.journal core acts ≡ [] → view_told first f.journal core acts ≡ Some view → Account breaks first core acts line f → Account breaks first core (acts + 1) line (act_leaves core acts effect f)
+act_account breaks first core acts line view f effect w d n v a = elim (act_splits view (shown f core) effect d) [
+  | inl t ↦ subst (λ effect. Account breaks first core (acts + 1) line (act_leaves core acts effect f)) (sym t.is) (take_account breaks first core acts line view f t.take w t.due n v a)
+  | inr i ↦ instruction_account breaks first core acts line view f effect w i n v a
 ]

@@ -6,7 +6,7 @@ use Rattle.std.proofs.lemmas.Bool.{cases_eq}
 use Rattle.std.proofs.lemmas.Option.{slice_get-map}
 use Rattle.core_regs.specs.declared.causes.WaitOn.{WaitOn}
 use Rattle.isa_step.specs.declared.acts.Breaks.{Breaks}
-use Rattle.isa_step.specs.Deeds.{View, Deed, Due, Does, Waits, Sleeps, Ends, Stops}
+use Rattle.isa_step.specs.Effects.{View, Effect, Due, Does, Waits, Sleeps, Ends, Stops}
 use Rattle.isa_step.specs.Due.{due}
 use Rattle.board_file.specs.declared.board.BoardFile.{BoardFile}
 use Rattle.board_file.specs.declared.board.EventRow.{EventRow}
@@ -16,7 +16,7 @@ use Rattle.run_journal.specs.Files.{tape}
 use Rattle.board_machine.specs.declared.events.Event.{Event}
 use Rattle.board_machine.specs.declared.events.Event.TheVariants.{Devices, Host, Tick, Next}
 use Rattle.board_machine.specs.DeviceMoves.{line_change, line_driven}
-use Rattle.board_machine.specs.Fabric.{Fabric, act_leaves, breaks_come, entered, entered_some, entries_of_action, entry_of_act, host_moves, is_kept, no_breaks, no_core, or_low, shown, waited}
+use Rattle.board_machine.specs.Fabric.{Fabric, act_leaves, breaks_come, entered, entered_some, entries_of_action, entry_of_act, host_moves, is_logged, no_breaks, no_core, or_low, shown, waited}
 use Rattle.board_machine.specs.History.{Tells, view_told}
 use Rattle.board_machine.specs.World.{CoreAt, Inputs, IsAct, Reached, Start, Step, Steps, TickMay, TickStep, World, acts_of, line_latched}
 use Rattle.board_machine.proofs.Keeping.{keeps_runs, wired}
@@ -107,10 +107,10 @@ host_account breaks first core acts f n =
 
 -- a tick of another core
 
-others_keep : (breaks : List EventRow) (first : View) (core acts by act : ℕ) (deed : Deed) (f : Fabric) → (by ≡ core → ⊥) → KeepsAccount breaks first core acts f (act_leaves by act deed f)
-others_keep breaks first core acts by act deed f n =
-    let g = entered_some by act (entries_of_action deed.action) f in
-    keeps_then breaks first core acts f g (act_leaves by act deed f) (some_other breaks first core acts by act (entries_of_action deed.action) f n) (some_other breaks first core acts by act (entry_of_act deed.done.act) g n)
+others_keep : (breaks : List EventRow) (first : View) (core acts by act : ℕ) (effect : Effect) (f : Fabric) → (by ≡ core → ⊥) → KeepsAccount breaks first core acts f (act_leaves by act effect f)
+others_keep breaks first core acts by act effect f n =
+    let g = entered_some by act (entries_of_action effect.action) f in
+    keeps_then breaks first core acts f g (act_leaves by act effect f) (some_other breaks first core acts by act (entries_of_action effect.action) f n) (some_other breaks first core acts by act (entry_of_act effect.done.act) g n)
 
 waited_keeps : (breaks : List EventRow) (first : View) (core acts by act : ℕ) (on : WaitOn) (f : Fabric) (kept : Bool) → KeepsAccount breaks first core acts f (cond kept f (entered by act (Wait on) f))
 waited_keeps breaks first core acts by act on f true = keeps_itself breaks first core acts f
@@ -120,9 +120,9 @@ later_keeps : (breaks : List EventRow) (first : View) (core acts : ℕ) (f g lat
 later_keeps breaks first core acts f g later e k = subst (KeepsAccount breaks first core acts f) (sym e) k
 
 other_keeps : (breaks : List EventRow) (first : View) (core acts by : ℕ) (d : Due) (old : CoreAt) (before : Fabric) (new : CoreAt) (later : Fabric) → (by ≡ core → ⊥) → TickMay by d old before new later → KeepsAccount breaks first core acts before later
-other_keeps breaks first core acts by (Does deed) old before new later n (inl h) = later_keeps breaks first core acts before _ later h.fabric (others_keep breaks first core acts by old.acts deed before n)
-other_keeps breaks first core acts by (Does deed) old before new later n (inr h) = later_keeps breaks first core acts before before later h.fabric (keeps_itself breaks first core acts before)
-other_keeps breaks first core acts by (Waits port full) old before new later n (inl h) = later_keeps breaks first core acts before _ later h.fabric (waited_keeps breaks first core acts by old.acts (record { port = port; full = full }) before (is_kept by old.acts before.journal))
+other_keeps breaks first core acts by (Does effect) old before new later n (inl h) = later_keeps breaks first core acts before _ later h.fabric (others_keep breaks first core acts by old.acts effect before n)
+other_keeps breaks first core acts by (Does effect) old before new later n (inr h) = later_keeps breaks first core acts before before later h.fabric (keeps_itself breaks first core acts before)
+other_keeps breaks first core acts by (Waits port full) old before new later n (inl h) = later_keeps breaks first core acts before _ later h.fabric (waited_keeps breaks first core acts by old.acts (record { port = port; full = full }) before (is_logged by old.acts before.journal))
 other_keeps breaks first core acts by (Waits port full) old before new later n (inr h) = later_keeps breaks first core acts before before later h.fabric (keeps_itself breaks first core acts before)
 other_keeps breaks first core acts by Sleeps old before new later n h = later_keeps breaks first core acts before before later h.fabric (keeps_itself breaks first core acts before)
 other_keeps breaks first core acts by Ends old before new later n h = later_keeps breaks first core acts before before later h.fabric (keeps_itself breaks first core acts before)
@@ -134,18 +134,18 @@ idle_account : (breaks : List EventRow) (first : View) (core : ℕ) (old new : C
 unfolding KeepsAccount
 idle_account breaks first core old new before left later f a k x = rw (f, a) (k x)
 
-act_done : (breaks : List EventRow) (first : View) (core : ℕ) (deed : Deed) (old : CoreAt) (before : Fabric) (new : CoreAt) (later : Fabric) → IsWired before → due old.view (shown before core) ≡ Does deed
-    → tape before.journal core old.acts ≡ [] → view_told first before.journal core old.acts ≡ Some old.view → IsAct core deed old before new later → HasAccount breaks first core old.acts before → HasAccount breaks first core new.acts later
-act_done breaks first core deed old before new later w d n t h x =
-    rw (h.fabric, ap (λ (s : CoreAt). s.acts) h.state) (record { line = x.line; account = act_account breaks first core old.acts x.line old.view before deed w d n t x.account })
+act_done : (breaks : List EventRow) (first : View) (core : ℕ) (effect : Effect) (old : CoreAt) (before : Fabric) (new : CoreAt) (later : Fabric) → IsWired before → due old.view (shown before core) ≡ Does effect
+    → tape before.journal core old.acts ≡ [] → view_told first before.journal core old.acts ≡ Some old.view → IsAct core effect old before new later → HasAccount breaks first core old.acts before → HasAccount breaks first core new.acts later
+act_done breaks first core effect old before new later w d n t h x =
+    rw (h.fabric, ap (λ (s : CoreAt). s.acts) h.state) (record { line = x.line; account = act_account breaks first core old.acts x.line old.view before effect w d n t x.account })
 
 own_ticked : (breaks : List EventRow) (first : View) (core : ℕ) (d : Due) (old : CoreAt) (before : Fabric) (new : CoreAt) (later : Fabric) → IsWired before → due old.view (shown before core) ≡ d
     → tape before.journal core old.acts ≡ [] → view_told first before.journal core old.acts ≡ Some old.view → TickMay core d old before new later → HasAccount breaks first core old.acts before → HasAccount breaks first core new.acts later
-own_ticked breaks first core (Does deed) old before new later w e n t (inl h) x = act_done breaks first core deed old before new later w e n t h x
-own_ticked breaks first core (Does deed) old before new later w e n t (inr h) x = idle_account breaks first core old new before before later h.fabric (ap (λ (s : CoreAt). s.acts) h.state) (keeps_itself breaks first core old.acts before) x
+own_ticked breaks first core (Does effect) old before new later w e n t (inl h) x = act_done breaks first core effect old before new later w e n t h x
+own_ticked breaks first core (Does effect) old before new later w e n t (inr h) x = idle_account breaks first core old new before before later h.fabric (ap (λ (s : CoreAt). s.acts) h.state) (keeps_itself breaks first core old.acts before) x
 own_ticked breaks first core (Waits port full) old before new later w e n t (inl h) x =
     let on : WaitOn = record { port = port; full = full } in
-    idle_account breaks first core old new before (waited core old.acts on before) later h.fabric (ap (λ (s : CoreAt). s.acts) h.state) (waited_keeps breaks first core old.acts core old.acts on before (is_kept core old.acts before.journal)) x
+    idle_account breaks first core old new before (waited core old.acts on before) later h.fabric (ap (λ (s : CoreAt). s.acts) h.state) (waited_keeps breaks first core old.acts core old.acts on before (is_logged core old.acts before.journal)) x
 own_ticked breaks first core (Waits port full) old before new later w e n t (inr h) x = idle_account breaks first core old new before before later h.fabric (ap (λ (s : CoreAt). s.acts) h.state) (keeps_itself breaks first core old.acts before) x
 own_ticked breaks first core Sleeps old before new later w e n t h x = idle_account breaks first core old new before before later h.fabric (ap (λ (s : CoreAt). s.acts) h.state) (keeps_itself breaks first core old.acts before) x
 own_ticked breaks first core Ends old before new later w e n t h x = idle_account breaks first core old new before before later h.fabric (ap (λ (s : CoreAt). s.acts) h.state) (keeps_itself breaks first core old.acts before) x

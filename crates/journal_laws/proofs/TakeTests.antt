@@ -3,7 +3,7 @@ use Rattle.std.proofs.Common.{◌≡◌, ℕ, ◌<◌, ◌≤◌, List, [], ◌�
 use Rattle.std.proofs.lemmas.Bool.{ne_eqb}
 use Rattle.std.proofs.lemmas.Option.{same_Some}
 use Rattle.core_regs.specs.declared.causes.Take.TheVariants.{Break, NonMaskable}
-use Rattle.isa_step.specs.Deeds.{View}
+use Rattle.isa_step.specs.Effects.{View}
 use Rattle.isa_step.specs.History.{state_after}
 use Rattle.board_file.specs.declared.board.EventRow.{EventRow}
 use Rattle.run_journal.specs.declared.entry.Entry.{Entry}

@@ -5,7 +5,7 @@ use Rattle.std.proofs.lemmas.Bool.{eq-eqb, ne_eqb, lt-ltb, le-ltb}
 use Rattle.std.proofs.lemmas.List.Sums.{fold-append}
 use Rattle.isa_step.specs.declared.acts.Action.{Action}
 use Rattle.isa_step.specs.declared.acts.Breaks.{Breaks}
-use Rattle.isa_step.specs.Deeds.{View}
+use Rattle.isa_step.specs.Effects.{View}
 use Rattle.isa_step.specs.History.{one_more, state_after}
 use Rattle.board_file.specs.declared.board.EventRow.{EventRow}
 use Rattle.run_journal.specs.declared.entry.Entry.{Entry}

@@ -1,7 +1,7 @@
 -- Journals in which no break is passed over, and journals that are refused since one is.
 use Rattle.std.specs.Prelude.{◌≡◌, false, true, [], ◌∷◌}
 use Rattle.core_regs.specs.declared.causes.Take.TheVariants.{Interrupt, Break}
-use Rattle.isa_step.specs.Deeds.{View}
+use Rattle.isa_step.specs.Effects.{View}
 use Rattle.run_journal.specs.declared.entry.What.TheVariants.{Took, Raised}
 use Rattle.board_machine.specs.History.{may_take_at}
 use Rattle.journal_laws.specs.BreakLaw.{BreakLaw}

@@ -1,13 +1,13 @@
 -- What is proved of every journal of the board machine.
 use Rattle.std.specs.Prelude.{◌≡◌, ℕ, ◌+◌, ◌*◌, ◌≤◌, List, Some, map, slice_get}
 use Rattle.std.specs.Option.{is_some}
-use Rattle.isa_step.specs.Deeds.{View, Ends}
+use Rattle.isa_step.specs.Effects.{View, Ends}
 use Rattle.isa_step.specs.Due.{due}
 use Rattle.board_file.specs.declared.board.BoardFile.{BoardFile}
 use Rattle.board_file.specs.declared.board.CoreRow.{CoreRow}
 use Rattle.run_journal.specs.declared.entry.Entry.{Entry}
 use Rattle.board_machine.specs.Cycles.{Cycles}
-use Rattle.board_machine.specs.Fabric.{is_kept, shown}
+use Rattle.board_machine.specs.Fabric.{is_logged, shown}
 use Rattle.board_machine.specs.World.{CoreAt, Inputs, Reached, Start, World}
 use Rattle.journal_laws.specs.BreakLaw.{BreakLaw}
 use Rattle.journal_laws.specs.LinkLaw.{LinkLaw}
@@ -50,7 +50,7 @@ pub record RunsJoin : Type 0 where
 pub record IsRecorded (first : View) (core : ℕ) (s : CoreAt) (journal : List Entry) : Type 0 where
   pub asleep : asleep_recorded first core journal ≡ s.view.arch.asleep
   pub stopped : stopped_recorded first core journal ≡ is_some s.view.arch.stopped
-  pub waits : is_some (wait_recorded core journal) ≡ is_kept core s.acts journal
+  pub waits : is_some (wait_recorded core journal) ≡ is_logged core s.acts journal
 
 pub record RestIsRecorded : Type 0 where
   pub law : (b : BoardFile) (views : List View) (inputs : Inputs) (w : World) → Reached b views inputs w

@@ -3,7 +3,7 @@ use Rattle.std.specs.Prelude.{◌≡◌, ℕ, zero, suc, ◌+◌, ◌*◌, ◌�
 use Rattle.std.specs.List.{fold, list_any, range_with_len}
 use Rattle.std.specs.Option.{is_some}
 use Rattle.core_regs.specs.declared.causes.WaitOn.{WaitOn}
-use Rattle.isa_step.specs.Deeds.{View}
+use Rattle.isa_step.specs.Effects.{View}
 use Rattle.board_file.specs.declared.board.LinkRow.{LinkRow}
 use Rattle.board_file.specs.declared.board.Turn.{Turn}
 use Rattle.run_journal.specs.declared.entry.Entry.{Entry}

@@ -3,7 +3,7 @@ use Rattle.std.specs.Prelude.{ℕ, false, List, [], ◌∷◌}
 use Rattle.core_regs.specs.declared.causes.Order.TheVariants.{Big}
 use Rattle.core_regs.specs.declared.causes.Take.TheVariants.{Interrupt}
 use Rattle.core_regs.specs.State.{fresh}
-use Rattle.isa_step.specs.Deeds.{View}
+use Rattle.isa_step.specs.Effects.{View}
 use Rattle.run_journal.specs.declared.entry.Entry.{Entry}
 use Rattle.run_journal.specs.declared.entry.What.TheVariants.{Got, Took, Slept, Raised, HostSent}
 use Rattle.board_file.specs.declared.board.Turn.TheVariants.{Ascending}

@@ -1,7 +1,7 @@
 -- Whatever a core is due to do, some tick of it is lawful; and no two turns of a cycle are those of one core.
 use Rattle.std.proofs.Common.{◌≡◌, ℕ, ◌+◌, ◌%◌, ◌<◌, length, Some, refl, inl, arith, slice_get, slice_set}
 use Rattle.std.proofs.lemmas.Bool.Decides.{nat_tests}
-use Rattle.isa_step.specs.Deeds.{Due, Does, Waits, Sleeps, Ends, Stops, after}
+use Rattle.isa_step.specs.Effects.{Due, Does, Waits, Sleeps, Ends, Stops, after}
 use Rattle.isa_step.specs.Due.{due}
 use Rattle.board_file.specs.declared.board.Turn.{Turn}
 use Rattle.board_file.specs.declared.board.Turn.TheVariants.{Ascending, Descending, Rotating}
@@ -21,9 +21,9 @@ record CanTick (core : ℕ) (d : Due) (s : CoreAt) (f : Fabric) : Type 0 where
   may : TickMay core d s f is later
 
 can_tick : (core : ℕ) (d : Due) (s : CoreAt) (f : Fabric) → CanTick core d s f
-can_tick core (Does deed) s f = record {
-  is = record { view = after s.view deed; acts = s.acts + 1; ticks = s.ticks + 1; slack = 0 };
-  later = act_leaves core s.acts deed f;
+can_tick core (Does effect) s f = record {
+  is = record { view = after s.view effect; acts = s.acts + 1; ticks = s.ticks + 1; slack = 0 };
+  later = act_leaves core s.acts effect f;
   may = inl (record { slack = omega arith; state = refl; fabric = refl });
 }
 can_tick core (Waits port full) s f = record {

@@ -12,10 +12,10 @@ use Rattle.core_regs.specs.declared.causes.Take.{Take}
 use Rattle.core_regs.specs.declared.causes.WaitOn.{WaitOn}
 use Rattle.core_regs.specs.declared.registers.Arch.{Arch}
 use Rattle.core_regs.specs.State.{bare}
-use Rattle.isa_step.specs.Deeds.{View, Deed, Due, Does, Waits, Sleeps, Ends, Stops, Want, Goes, Homes, Gets, Puts, Reads, Writes}
+use Rattle.isa_step.specs.Effects.{View, Effect, Due, Does, Waits, Sleeps, Ends, Stops, Request, Goes, HaltLoop, Gets, Puts, Reads, Writes}
 use Rattle.isa_step.specs.Due.{awake, by_item, by_room, due, due_by, due_with, here_of, is_closed, reply, take_due}
 use Rattle.isa_step.specs.Shown.{Shown}
-use Rattle.isa_step.specs.Wants.{operands_of}
+use Rattle.isa_step.specs.Requests.{operands_of}
 use Rattle.board_file.specs.declared.board.BoardFile.{BoardFile}
 use Rattle.board_file.specs.declared.board.LinkRow.{LinkRow}
 use Rattle.board_file.specs.declared.board.UartRow.{UartRow}
@@ -24,16 +24,16 @@ use Rattle.run_journal.specs.declared.entry.What.{What}
 use Rattle.run_journal.specs.declared.entry.What.TheVariants.{Wait}
 use Rattle.board_machine.specs.declared.events.Event.{Event}
 use Rattle.board_machine.specs.declared.events.Event.TheVariants.{Devices, Host, Tick, Next}
-use Rattle.board_machine.specs.Fabric.{Fabric, act_leaves, entered, entered_some, entries_of_action, entry_of, entry_of_act, is_kept, is_wait, kept_wait, shown, waited}
+use Rattle.board_machine.specs.Fabric.{Fabric, act_leaves, entered, entered_some, entries_of_action, entry_of, entry_of_act, is_logged, is_wait, logged_wait, shown, waited}
 use Rattle.board_machine.specs.Bus.{DeviceRows, Devices as DeviceSet}
 use Rattle.board_machine.specs.World.{CoreAt, Inputs, IsAct, IsFilling, IsIdle, Reached, Start, Step, Steps, TickMay, World, feeds_of, serials_of}
 use Rattle.board_machine.proofs.Keeping.{wired}
 use Rattle.board_machine.proofs.Lists.{all_append}
-use Rattle.board_machine.proofs.Staying.{hoped}
+use Rattle.board_machine.proofs.Staying.{announced}
 use Rattle.board_machine.proofs.Lasting.{step_kept}
 use Rattle.board_machine.proofs.Tells.{which}
 use Rattle.board_machine.proofs.Waits.{none_kept}
-use Rattle.machine_laws.specs.Holding.{EachStateHolds, Holds, IsAtWait, IsWaitWithin, WaitsHold, can_wait, want_of}
+use Rattle.machine_laws.specs.Holding.{EachStateHolds, Holds, IsAtWait, IsWaitWithin, WaitsHold, can_wait, request_at}
 use Rattle.machine_laws.specs.Stamps.{IsStamped, maker}
 use Rattle.machine_laws.proofs.Lengths.{step_length}
 use Rattle.machine_laws.proofs.Stamping.{AddedAll, and_more, no_more, step_stamped}
@@ -41,23 +41,23 @@ use Rattle.machine_laws.proofs.Waiting.{IsNoWait, act_no_wait, action_no_wait, a
 
 -- where a wait is due, the core stands at a link access that waits
 
-item_waits : (port : ℕ) (item : Item → Deed) (empty : Option Deed) (o : Option Item) (p : ℕ) (full : Bool) → by_item port item empty o ≡ Waits p full → can_wait (Gets port item empty) ≡ true
+item_waits : (port : ℕ) (item : Item → Effect) (empty : Option Effect) (o : Option Item) (p : ℕ) (full : Bool) → by_item port item empty o ≡ Waits p full → can_wait (Gets port item empty) ≡ true
 item_waits port item None o p full e = refl
 item_waits port item (Some d) (Some x) p full e = cc
 item_waits port item (Some d) None p full e = cc
 
-room_waits : (port : ℕ) (room : Deed) (missed : Option Deed) (b : Bool) (p : ℕ) (full : Bool) → by_room port room missed b ≡ Waits p full → can_wait (Puts port room missed) ≡ true
+room_waits : (port : ℕ) (room : Effect) (missed : Option Effect) (b : Bool) (p : ℕ) (full : Bool) → by_room port room missed b ≡ Waits p full → can_wait (Puts port room missed) ≡ true
 room_waits port room None b p full e = refl
 room_waits port room (Some d) true p full e = cc
 room_waits port room (Some d) false p full e = cc
 
-home_waits : (d : Deed) (b : Bool) (p : ℕ) (full : Bool) → (if b then Ends else Does d) ≡ Waits p full → ⊥
-home_waits d true p full e = cc
-home_waits d false p full e = cc
+halt_loop_waits : (d : Effect) (b : Bool) (p : ℕ) (full : Bool) → (if b then Ends else Does d) ≡ Waits p full → ⊥
+halt_loop_waits d true p full e = cc
+halt_loop_waits d false p full e = cc
 
-reply_waits : (a : Arch) (w : Want) (s : Shown) (p : ℕ) (full : Bool) → reply a w s ≡ Waits p full → can_wait w ≡ true
+reply_waits : (a : Arch) (w : Request) (s : Shown) (p : ℕ) (full : Bool) → reply a w s ≡ Waits p full → can_wait w ≡ true
 reply_waits a (Goes d) s p full e = cc
-reply_waits a (Homes d) s p full e = absurd (home_waits d (is_closed a s.hopes) p full e)
+reply_waits a (HaltLoop d) s p full e = absurd (halt_loop_waits d (is_closed a s.hopes) p full e)
 reply_waits a (Gets port item empty) s p full e = item_waits port item empty (s.first port) p full e
 reply_waits a (Puts port room missed) s p full e = room_waits port room missed (s.room port) p full e
 reply_waits a (Reads addr answer) s p full e = cc
@@ -65,7 +65,7 @@ reply_waits a (Writes addr word answer) s p full e = cc
 
 awake_waits : (v : View) (s : Shown) (asleep : Bool) (p : ℕ) (full : Bool) → v.arch.asleep ≡ asleep → v.arch.stopped ≡ None → awake (here_of v) (operands_of (here_of v) v.arch.regs) (bare v.arch) v.memory s asleep ≡ Waits p full → IsAtWait v
 awake_waits v s true p full a c e = cc
-awake_waits v s false p full a c e = record { awake = record { asleep = a; stopped = c }; waits = reply_waits (bare v.arch) (want_of v) s p full e }
+awake_waits v s false p full a c e = record { awake = record { asleep = a; stopped = c }; waits = reply_waits (bare v.arch) (request_at v) s p full e }
 
 by_waits : (v : View) (s : Shown) (t : Option Take) (c : Option StopCause) (p : ℕ) (full : Bool) → v.arch.stopped ≡ c → due_by (here_of v) (operands_of (here_of v) v.arch.regs) (bare v.arch) v.memory s t c ≡ Waits p full → IsAtWait v
 by_waits v s t (Some cause) p full c e = cc
@@ -117,18 +117,18 @@ some_within core acts k act (Some what) f h = record {
   each = (record { within = λ c w. let z : false ≡ true = sym h ∙ w in cc }, tt);
 }
 
-act_within : (core acts act : ℕ) (deed : Deed) (f : Fabric) → AddedAll (IsWaitWithin core acts) f (act_leaves core act deed f)
-act_within core acts act deed f =
-    let g = entered_some core act (entries_of_action deed.action) f in
-    and_more (IsWaitWithin core acts) f g (act_leaves core act deed f)
-    (some_within core acts core act (entries_of_action deed.action) f (action_no_wait deed.action))
-    (some_within core acts core act (entry_of_act deed.done.act) g (act_no_wait deed.done.act))
+act_within : (core acts act : ℕ) (effect : Effect) (f : Fabric) → AddedAll (IsWaitWithin core acts) f (act_leaves core act effect f)
+act_within core acts act effect f =
+    let g = entered_some core act (entries_of_action effect.action) f in
+    and_more (IsWaitWithin core acts) f g (act_leaves core act effect f)
+    (some_within core acts core act (entries_of_action effect.action) f (action_no_wait effect.action))
+    (some_within core acts core act (entry_of_act effect.done.act) g (act_no_wait effect.done.act))
 
-acts_hold : (core : ℕ) (deed : Deed) (old new : CoreAt) (f g : Fabric) → IsAct core deed old f new g → WaitsHold core old f.journal → WaitsHold core new g.journal
-acts_hold core deed old new f g h k =
+acts_hold : (core : ℕ) (effect : Effect) (old new : CoreAt) (f g : Fabric) → IsAct core effect old f new g → WaitsHold core old f.journal → WaitsHold core new g.journal
+acts_hold core effect old new f g h k =
     let more : new.acts ≡ old.acts + 1 = ap (λ (s : CoreAt). s.acts) h.state in
-    let a = act_within core new.acts old.acts deed f in
-    let same : kept_wait core g.journal ≡ kept_wait core f.journal = ap (λ (x : Fabric). kept_wait core x.journal) h.fabric ∙ acts_keep core old.acts deed f in
+    let a = act_within core new.acts old.acts effect f in
+    let same : logged_wait core g.journal ≡ logged_wait core f.journal = ap (λ (x : Fabric). logged_wait core x.journal) h.fabric ∙ acts_keep core old.acts effect f in
     record {
       each = subst (AllByRecursion (IsWaitWithin core new.acts)) (sym (ap (λ (x : Fabric). x.journal) h.fabric ∙ a.journal))
           (all_append (IsWaitWithin core new.acts) f.journal a.added (all_later core old.acts new.acts f.journal (omega (arith, more)) k.each) a.each);
@@ -148,8 +148,8 @@ wait_holds core s on f false v k = record {
 same_holds : (core : ℕ) (old new : CoreAt) (f g : Fabric) → new.view ≡ old.view → new.acts ≡ old.acts → g ≡ f → WaitsHold core old f.journal → WaitsHold core new g.journal
 same_holds core old new f g v a e k = record {
   each = subst (λ (x : Fabric). AllByRecursion (IsWaitWithin core new.acts) x.journal) (sym e) (all_later core old.acts new.acts f.journal (omega (arith, a)) k.each);
-  kept = λ act q. omega (arith, a, k.kept act (ap (λ (x : Fabric). kept_wait core x.journal) (sym e) ∙ q));
-  waits = λ q. subst IsAtWait (sym v) (k.waits (ap (λ (x : Fabric). kept_wait core x.journal) (sym e) ∙ q ∙ ap Some a));
+  kept = λ act q. omega (arith, a, k.kept act (ap (λ (x : Fabric). logged_wait core x.journal) (sym e) ∙ q));
+  waits = λ q. subst IsAtWait (sym v) (k.waits (ap (λ (x : Fabric). logged_wait core x.journal) (sym e) ∙ q ∙ ap Some a));
 }
 
 filled_holds : (core : ℕ) (old new : CoreAt) (f g : Fabric) → IsFilling old f new g → WaitsHold core old f.journal → WaitsHold core new g.journal
@@ -159,11 +159,11 @@ idle_holds : (core : ℕ) (old new : CoreAt) (f left g : Fabric) → IsIdle old 
 idle_holds core old new f left g h k = same_holds core old new left g (ap (λ (s : CoreAt). s.view) h.state) (ap (λ (s : CoreAt). s.acts) h.state) h.fabric k
 
 tick_holds : (core : ℕ) (d : Due) (old new : CoreAt) (f g : Fabric) → due old.view (shown f core) ≡ d → TickMay core d old f new g → WaitsHold core old f.journal → WaitsHold core new g.journal
-tick_holds core (Does deed) old new f g e (inl h) k = acts_hold core deed old new f g h k
-tick_holds core (Does deed) old new f g e (inr h) k = filled_holds core old new f g h k
+tick_holds core (Does effect) old new f g e (inl h) k = acts_hold core effect old new f g h k
+tick_holds core (Does effect) old new f g e (inr h) k = filled_holds core old new f g h k
 tick_holds core (Waits port full) old new f g e (inl h) k =
     let on : WaitOn = record { port = port; full = full } in
-    idle_holds core old new f (waited core old.acts on f) g h (wait_holds core old on f (is_kept core old.acts f.journal) (at_wait old.view (shown f core) port full e) k)
+    idle_holds core old new f (waited core old.acts on f) g h (wait_holds core old on f (is_logged core old.acts f.journal) (at_wait old.view (shown f core) port full e) k)
 tick_holds core (Waits port full) old new f g e (inr h) k = filled_holds core old new f g h k
 tick_holds core Sleeps old new f g e h k = idle_holds core old new f f g h k
 tick_holds core Ends old new f g e h k = idle_holds core old new f f g h k
@@ -263,8 +263,8 @@ start_sized b views inputs w s =
 nothing_waits : (core : ℕ) (s : CoreAt) (journal : List Entry) → journal ≡ [] → WaitsHold core s journal
 nothing_waits core s journal e = record {
   each = subst (AllByRecursion (IsWaitWithin core s.acts)) (sym e) tt;
-  kept = λ act q. let z : None ≡ Some act = sym (ap (kept_wait core) e ∙ none_kept core) ∙ q in cc;
-  waits = λ q. let z : None ≡ Some s.acts = sym (ap (kept_wait core) e ∙ none_kept core) ∙ q in cc;
+  kept = λ act q. let z : None ≡ Some act = sym (ap (logged_wait core) e ∙ none_kept core) ∙ q in cc;
+  waits = λ q. let z : None ≡ Some s.acts = sym (ap (logged_wait core) e ∙ none_kept core) ∙ q in cc;
 }
 
 start_waits : (b : BoardFile) (views : List View) (inputs : Inputs) (w : World) → Start b views inputs w → AllWait w
@@ -277,7 +277,7 @@ reached_holds b views inputs w r =
     let z = steps_sized r.first w r.events r.ran (start_sized b views inputs r.first r.began) in
     record {
       wired = wired b views inputs w r;
-      hoped = hoped w.fabric;
+      announced = announced w.fabric;
       lines = z.lines;
       pending = z.pending;
       links = z.links;

@@ -6,7 +6,7 @@ use Rattle.axi_link.specs.Channel.{Channel}
 use Rattle.bus_map.specs.declared.device.Access.{Access}
 use Rattle.bus_map.specs.declared.device.Access.TheVariants.{Read as ReadAt, Write as WriteAt}
 use Rattle.isa_step.specs.declared.acts.Breaks.{Breaks}
-use Rattle.isa_step.specs.Deeds.{Deed, Due, Does, Waits, Sleeps, Ends, Stops}
+use Rattle.isa_step.specs.Effects.{Effect, Due, Does, Waits, Sleeps, Ends, Stops}
 use Rattle.isa_step.specs.Due.{due}
 use Rattle.board_file.specs.declared.board.EventRow.{EventRow}
 use Rattle.board_file.specs.declared.board.IntcRow.{IntcRow}
@@ -20,7 +20,7 @@ use Rattle.board_machine.specs.declared.parts.Spot.TheVariants.{Timer as AtTimer
 use Rattle.board_machine.specs.Places.{set_some, touch}
 use Rattle.board_machine.specs.Bus.{DeviceRows, Devices as DeviceSet, accessed_at, offset_in, spot_at}
 use Rattle.board_machine.specs.DeviceMoves.{devices_moved, edge_used, in_order, intc_moved, intc_moved_by, intcs_moved, is_of, is_turn, left_at, line_change, line_driven, timer_moved, timers_moved, uart_asked, uart_cycled, uart_moved, with_devices}
-use Rattle.board_machine.specs.Fabric.{Fabric, Feed, act_leaves, breaks_come, changed, devices_after, entered, entered_some, entries_of_action, entry_of_act, feeds_after, given, has_come, host_moves, is_kept, line_set, line_told, links_after, move_of, moved, no_core, or_low, pending_after, shown, waited}
+use Rattle.board_machine.specs.Fabric.{Fabric, Feed, act_leaves, breaks_come, changed, devices_after, entered, entered_some, entries_of_action, entry_of_act, feeds_after, given, has_come, host_moves, is_logged, line_set, line_told, links_after, move_of, moved, no_core, or_low, pending_after, shown, waited}
 use Rattle.board_machine.specs.World.{CoreAt, Step, TickMay, World, acts_of, devices_done, line_latched}
 use Rattle.board_machine.proofs.DeviceSteps.{order_keeps}
 
@@ -135,10 +135,10 @@ some_length : (core act : ℕ) (o : Option What) (f : Fabric) → SameLengths f 
 some_length core act None f = same f f refl
 some_length core act (Some what) f = one_length core act what f
 
-act_length : (core act : ℕ) (deed : Deed) (f : Fabric) → SameLengths f (act_leaves core act deed f)
-act_length core act deed f =
-    let g = entered_some core act (entries_of_action deed.action) f in
-    twice f g (act_leaves core act deed f) (some_length core act (entries_of_action deed.action) f) (some_length core act (entry_of_act deed.done.act) g)
+act_length : (core act : ℕ) (effect : Effect) (f : Fabric) → SameLengths f (act_leaves core act effect f)
+act_length core act effect f =
+    let g = entered_some core act (entries_of_action effect.action) f in
+    twice f g (act_leaves core act effect f) (some_length core act (entries_of_action effect.action) f) (some_length core act (entry_of_act effect.done.act) g)
 
 wait_length : (core act : ℕ) (on : WaitOn) (f : Fabric) (b : Bool) → SameLengths f (cond b f (entered core act (Wait on) f))
 wait_length core act on f true = same f f refl
@@ -192,11 +192,11 @@ done_length cores f =
     (twice b g (devices_done cores f) (moved_length b) (order_length (line_latched cores) (latch_length cores) (length cores) g))
 
 tick_length : (core : ℕ) (d : Due) (s n : CoreAt) (f g : Fabric) → TickMay core d s f n g → SameLengths f g
-tick_length core (Does deed) s n f g (inl h) = left_as f (act_leaves core s.acts deed f) g h.fabric (act_length core s.acts deed f)
-tick_length core (Does deed) s n f g (inr h) = same f g h.fabric
+tick_length core (Does effect) s n f g (inl h) = left_as f (act_leaves core s.acts effect f) g h.fabric (act_length core s.acts effect f)
+tick_length core (Does effect) s n f g (inr h) = same f g h.fabric
 tick_length core (Waits port full) s n f g (inl h) =
     let on : WaitOn = record { port = port; full = full } in
-    left_as f (waited core s.acts on f) g h.fabric (wait_length core s.acts on f (is_kept core s.acts f.journal))
+    left_as f (waited core s.acts on f) g h.fabric (wait_length core s.acts on f (is_logged core s.acts f.journal))
 tick_length core (Waits port full) s n f g (inr h) = same f g h.fabric
 tick_length core Sleeps s n f g h = same f g h.fabric
 tick_length core Ends s n f g h = same f g h.fabric

@@ -23,11 +23,11 @@ use Rattle.isa_step.specs.declared.acts.Action.{Action}
 use Rattle.isa_step.specs.declared.acts.Action.TheVariants.{ReadRefused, WriteRefused}
 use Rattle.isa_step.specs.declared.acts.Here.{Here}
 use Rattle.isa_step.specs.declared.acts.Operands.{Operands}
-use Rattle.isa_step.specs.declared.supplying.Given.{Given}
+use Rattle.isa_step.specs.declared.operands.Given.{Given}
 use Rattle.op_table.specs.declared.kinds.Kind.{Kind}
 use Rattle.op_table.specs.declared.kinds.Kind.TheVariants.{Divide, BranchIf, Barrier, Load, Store, Get, Put}
 use Rattle.op_table.specs.Table.{kind_of}
-use Rattle.isa_step.specs.Deeds.{View, Deed, Due, Does, Ends, Want, Goes, Homes, Gets, Puts, Reads, Writes, after_store, faults, raises, stops}
+use Rattle.isa_step.specs.Effects.{View, Effect, Due, Does, Ends, Request, Goes, HaltLoop, Gets, Puts, Reads, Writes, after_store, faults, raises, stops}
 use Rattle.isa_step.specs.Due.{awake, by_item, by_room, due, due_by, due_with, here_of, is_closed, reply, take_due}
 use Rattle.isa_step.specs.Arithmetic.{divided}
 use Rattle.isa_step.specs.Branches.{branches_if, holds}
@@ -35,31 +35,31 @@ use Rattle.isa_step.specs.Special.{is_sleep}
 use Rattle.isa_step.specs.Links.{gets_from, is_nonblocking, is_raised, port_of, puts_to}
 use Rattle.isa_step.specs.Loads.{address, is_aligned, keeps, loads, loads_at, loads_from, loads_past, lowered, no_data, read_from_bus, stores, stores_at, stores_past, unaligned, written_to_bus}
 use Rattle.isa_step.specs.Shown.{Shown}
-use Rattle.isa_step.specs.Wants.{comes_home, deed_of, effect, given, illegal, is_banned, is_end, operands_of, wants, wants_instr, wants_kind}
+use Rattle.isa_step.specs.Requests.{halt_loop, effect_of, request_of, given, illegal, is_banned, is_end, operands_of, requested, requested_instr, requested_kind}
 use Rattle.op_table.specs.Kinds.{belongs_into_slot}
 use Rattle.machine_laws.specs.Silence.{LoudActsKeepMemory, is_silent}
 
--- the deed leaves a memory as it was
-abbrev Leaves : Order → List ℕ → Deed → Type 0
+-- the effect leaves a memory as it was
+abbrev Leaves : Order → List ℕ → Effect → Type 0
 Leaves order m d = after_store order d.done.store m ≡ m
 
 -- it does where it enters something
-abbrev LoudLeaves : Order → List ℕ → Deed → Type 0
+abbrev LoudLeaves : Order → List ℕ → Effect → Type 0
 LoudLeaves order m d = is_silent d ≡ false → Leaves order m d
 
-abbrev WantLeaves : Order → List ℕ → Want → Type 0
-WantLeaves order m (Goes d) = LoudLeaves order m d
-WantLeaves order m (Homes d) = LoudLeaves order m d
-WantLeaves order m (Gets port item empty) = ((x : Item) → Leaves order m (item x)) × ((d : Deed) → empty ≡ Some d → Leaves order m d)
-WantLeaves order m (Puts port room full) = Leaves order m room × ((d : Deed) → full ≡ Some d → Leaves order m d)
-WantLeaves order m (Reads addr answer) = (o : Option ℕ) → Leaves order m (answer o)
-WantLeaves order m (Writes addr word answer) = (b : Bool) → Leaves order m (answer b)
+abbrev RequestLeaves : Order → List ℕ → Request → Type 0
+RequestLeaves order m (Goes d) = LoudLeaves order m d
+RequestLeaves order m (HaltLoop d) = LoudLeaves order m d
+RequestLeaves order m (Gets port item empty) = ((x : Item) → Leaves order m (item x)) × ((d : Effect) → empty ≡ Some d → Leaves order m d)
+RequestLeaves order m (Puts port room full) = Leaves order m room × ((d : Effect) → full ≡ Some d → Leaves order m d)
+RequestLeaves order m (Reads addr answer) = (o : Option ℕ) → Leaves order m (answer o)
+RequestLeaves order m (Writes addr word answer) = (b : Bool) → Leaves order m (answer b)
 
-either : (order : Order) (m : List ℕ) (b : Bool) (x y : Want) → WantLeaves order m x → WantLeaves order m y → WantLeaves order m (if b then x else y)
+either : (order : Order) (m : List ℕ) (b : Bool) (x y : Request) → RequestLeaves order m x → RequestLeaves order m y → RequestLeaves order m (if b then x else y)
 either order m true x y p q = p
 either order m false x y p q = q
 
-one_of : (order : Order) (m : List ℕ) (b : Bool) (x y : Deed) → Leaves order m x → Leaves order m y → Leaves order m (if b then x else y)
+one_of : (order : Order) (m : List ℕ) (b : Bool) (x y : Effect) → Leaves order m x → Leaves order m y → Leaves order m (if b then x else y)
 one_of order m true x y p q = p
 one_of order m false x y p q = q
 
@@ -74,12 +74,12 @@ branch_leaves : (order : Order) (m : List ℕ) (g : Given) (a : Arch) (delayed t
 branch_leaves order m g a delayed true = refl
 branch_leaves order m g a delayed false = refl
 
-deed_leaves : (order : Order) (m : List ℕ) (kind : Kind) (g : Given) (a : Arch) → Leaves order m (deed_of kind g a)
-unfolding deed_of
-deed_leaves order m (Divide signed) g a = divided_leaves order m g a (quotient_of g.b g.a signed) (fault_of g.b g.a signed)
-deed_leaves order m (BranchIf condition delayed) g a = branch_leaves order m g a delayed (holds condition g.a)
-deed_leaves order m Barrier g a = one_of order m (is_sleep g.imm) _ _ refl refl
-deed_leaves order m _ g a = refl
+effect_leaves : (order : Order) (m : List ℕ) (kind : Kind) (g : Given) (a : Arch) → Leaves order m (effect_of kind g a)
+unfolding effect_of
+effect_leaves order m (Divide signed) g a = divided_leaves order m g a (quotient_of g.b g.a signed) (fault_of g.b g.a signed)
+effect_leaves order m (BranchIf condition delayed) g a = branch_leaves order m g a delayed (holds condition g.a)
+effect_leaves order m Barrier g a = one_of order m (is_sleep g.imm) _ _ refl refl
+effect_leaves order m _ g a = refl
 
 data_leaves : (order : Order) (m : List ℕ) (a : Arch) (addr : ℕ) (o : Option Action) → Leaves order m (no_data a addr o)
 data_leaves order m a addr o = fault_leaves order m a (DataBus addr) (stop.DataBus addr) o
@@ -88,16 +88,16 @@ word_leaves : (order : Order) (m : List ℕ) (g : Given) (a : Arch) (addr : ℕ)
 word_leaves order m g a addr (Some word) = refl
 word_leaves order m g a addr None = data_leaves order m a addr (Some (ReadRefused addr))
 
-load_past : (order : Order) (m : List ℕ) (g : Given) (a : Arch) (addr : ℕ) (size : Size) → WantLeaves order m (loads_past g a addr size)
+load_past : (order : Order) (m : List ℕ) (g : Given) (a : Arch) (addr : ℕ) (size : Size) → RequestLeaves order m (loads_past g a addr size)
 load_past order m g a addr Byte = λ h. data_leaves order m a addr None
 load_past order m g a addr Half = λ h. data_leaves order m a addr None
 load_past order m g a addr Word = λ o. word_leaves order m g a addr o
 
-load_from : (order : Order) (m : List ℕ) (g : Given) (a : Arch) (size : Size) (addr : ℕ) (o : Option ℕ) → WantLeaves order m (loads_from g a size addr o)
+load_from : (order : Order) (m : List ℕ) (g : Given) (a : Arch) (size : Size) (addr : ℕ) (o : Option ℕ) → RequestLeaves order m (loads_from g a size addr o)
 load_from order m g a size addr (Some value) = λ h. refl
 load_from order m g a size addr None = load_past order m g a addr size
 
-load_leaves : (g : Given) (a : Arch) (m : List ℕ) (size : Size) → WantLeaves a.order m (loads g a m size)
+load_leaves : (g : Given) (a : Arch) (m : List ℕ) (size : Size) → RequestLeaves a.order m (loads g a m size)
 load_leaves g a m size =
     let addr = lowered size (address g) in
     either a.order m (not (is_aligned size (address g)) && exceptions_on a) (unaligned g a size false) (loads_at g a m size addr) (λ h. refl)
@@ -113,7 +113,7 @@ taken_leaves : (g : Given) (a : Arch) (m : List ℕ) (addr : ℕ) (b : Bool) →
 taken_leaves g a m addr true e = past_end a.order m addr g.d e
 taken_leaves g a m addr false e = data_leaves a.order m a addr (Some (WriteRefused addr g.d))
 
-store_past : (g : Given) (a : Arch) (m : List ℕ) (addr : ℕ) (size : Size) → fits m addr (bytes_of size) ≡ false → WantLeaves a.order m (stores_past g a addr size)
+store_past : (g : Given) (a : Arch) (m : List ℕ) (addr : ℕ) (size : Size) → fits m addr (bytes_of size) ≡ false → RequestLeaves a.order m (stores_past g a addr size)
 store_past g a m addr Byte e = λ h. data_leaves a.order m a addr None
 store_past g a m addr Half e = λ h. data_leaves a.order m a addr None
 store_past g a m addr Word e = λ b. taken_leaves g a m addr b e
@@ -122,52 +122,52 @@ store_past g a m addr Word e = λ b. taken_leaves g a m addr b e
 kept_silent : (g : Given) (a : Arch) (m : List ℕ) (size : Size) (addr : ℕ) → LoudLeaves a.order m (keeps g a size addr None)
 kept_silent g a m size addr h = cc
 
-store_by : (g : Given) (a : Arch) (m : List ℕ) (size : Size) (addr : ℕ) (b : Bool) → fits m addr (bytes_of size) ≡ b → WantLeaves a.order m (if b then Goes (keeps g a size addr None) else stores_past g a addr size)
+store_by : (g : Given) (a : Arch) (m : List ℕ) (size : Size) (addr : ℕ) (b : Bool) → fits m addr (bytes_of size) ≡ b → RequestLeaves a.order m (if b then Goes (keeps g a size addr None) else stores_past g a addr size)
 store_by g a m size addr true e = kept_silent g a m size addr
 store_by g a m size addr false e = store_past g a m addr size e
 
-store_leaves : (g : Given) (a : Arch) (m : List ℕ) (size : Size) → WantLeaves a.order m (stores g a m size)
+store_leaves : (g : Given) (a : Arch) (m : List ℕ) (size : Size) → RequestLeaves a.order m (stores g a m size)
 store_leaves g a m size =
     let addr = lowered size (address g) in
     either a.order m (not (is_aligned size (address g)) && exceptions_on a) (unaligned g a size true) (stores_at g a m size addr) (λ h. refl)
     (store_by g a m size addr (fits m addr (bytes_of size)) refl)
 
-missed_leaves : (order : Order) (m : List ℕ) (b : Bool) (missed d : Deed) → Leaves order m missed → (if b then Some missed else None) ≡ Some d → Leaves order m d
+missed_leaves : (order : Order) (m : List ℕ) (b : Bool) (missed d : Effect) → Leaves order m missed → (if b then Some missed else None) ≡ Some d → Leaves order m d
 missed_leaves order m true missed d h e = subst (Leaves order m) (same_Some _ _ e) h
 missed_leaves order m false missed d h e = cc
 
-get_leaves : (order : Order) (m : List ℕ) (g : Given) (a : Arch) (port : ℕ) → WantLeaves order m (gets_from g a port)
+get_leaves : (order : Order) (m : List ℕ) (g : Given) (a : Arch) (port : ℕ) → RequestLeaves order m (gets_from g a port)
 get_leaves order m g a port = (
   λ x. one_of order m (is_raised g.flags x a) _ _ refl refl,
   λ d e. missed_leaves order m (is_nonblocking g.flags) _ d refl e,
 )
 
-put_leaves : (order : Order) (m : List ℕ) (g : Given) (a : Arch) (port : ℕ) → WantLeaves order m (puts_to g a port)
+put_leaves : (order : Order) (m : List ℕ) (g : Given) (a : Arch) (port : ℕ) → RequestLeaves order m (puts_to g a port)
 put_leaves order m g a port = (refl, λ d e. missed_leaves order m (is_nonblocking g.flags) _ d refl e)
 
-effect_leaves : (kind : Kind) (g : Given) (a : Arch) (m : List ℕ) → WantLeaves a.order m (effect kind g a m)
-unfolding effect
-effect_leaves (Load size) g a m = load_leaves g a m size
-effect_leaves (Store size) g a m = store_leaves g a m size
-effect_leaves (Get dynamic) g a m = get_leaves a.order m g a (port_of g dynamic)
-effect_leaves (Put dynamic) g a m = put_leaves a.order m g a (port_of g dynamic)
-effect_leaves kind g a m = λ h. deed_leaves a.order m kind g a
+request_of_leaves : (kind : Kind) (g : Given) (a : Arch) (m : List ℕ) → RequestLeaves a.order m (request_of kind g a m)
+unfolding request_of
+request_of_leaves (Load size) g a m = load_leaves g a m size
+request_of_leaves (Store size) g a m = store_leaves g a m size
+request_of_leaves (Get dynamic) g a m = get_leaves a.order m g a (port_of g dynamic)
+request_of_leaves (Put dynamic) g a m = put_leaves a.order m g a (port_of g dynamic)
+request_of_leaves kind g a m = λ h. effect_leaves a.order m kind g a
 
-kind_leaves : (kind : Kind) (i : Instr) (word : ℕ) (o : Operands) (a : Arch) (m : List ℕ) → WantLeaves a.order m (wants_kind kind i word o a m)
+kind_leaves : (kind : Kind) (i : Instr) (word : ℕ) (o : Operands) (a : Arch) (m : List ℕ) → RequestLeaves a.order m (requested_kind kind i word o a m)
 kind_leaves kind i word o a m =
-    let placed = if is_some a.slot && not (belongs_into_slot kind) then Goes (stops a (stop.Slot word) None) else effect kind (given i o a) a m in
+    let placed = if is_some a.slot && not (belongs_into_slot kind) then Goes (stops a (stop.Slot word) None) else request_of kind (given i o a) a m in
     either a.order m (is_banned i kind a.network) (illegal a word) placed (λ h. fault_leaves a.order m a IllegalWord (stop.Illegal word) None)
-    (either a.order m (is_some a.slot && not (belongs_into_slot kind)) (Goes (stops a (stop.Slot word) None)) (effect kind (given i o a) a m) (λ h. refl) (effect_leaves kind (given i o a) a m))
+    (either a.order m (is_some a.slot && not (belongs_into_slot kind)) (Goes (stops a (stop.Slot word) None)) (request_of kind (given i o a) a m) (λ h. refl) (request_of_leaves kind (given i o a) a m))
 
-instr_leaves : (i : Option Instr) (word : ℕ) (o : Operands) (a : Arch) (m : List ℕ) → WantLeaves a.order m (wants_instr i word o a m)
+instr_leaves : (i : Option Instr) (word : ℕ) (o : Operands) (a : Arch) (m : List ℕ) → RequestLeaves a.order m (requested_instr i word o a m)
 instr_leaves None word o a m = λ h. fault_leaves a.order m a IllegalWord (stop.Illegal word) None
 instr_leaves (Some i) word o a m = kind_leaves (kind_of i.op) i word o a m
 
-want_leaves : (here : Option Here) (o : Operands) (a : Arch) (m : List ℕ) → WantLeaves a.order m (wants here o a m)
-unfolding wants
-want_leaves None o a m = λ h. fault_leaves a.order m a InstrBus (stop.InstrBus a.pc) None
-want_leaves (Some here) o a m =
-    either a.order m (is_end here.word a) (Homes (comes_home a)) (wants_instr here.instr here.word o a m) (λ h. refl) (instr_leaves here.instr here.word o a m)
+request_leaves : (here : Option Here) (o : Operands) (a : Arch) (m : List ℕ) → RequestLeaves a.order m (requested here o a m)
+unfolding requested
+request_leaves None o a m = λ h. fault_leaves a.order m a InstrBus (stop.InstrBus a.pc) None
+request_leaves (Some here) o a m =
+    either a.order m (is_end here.word a) (HaltLoop (halt_loop a)) (requested_instr here.instr here.word o a m) (λ h. refl) (instr_leaves here.instr here.word o a m)
 
 -- and the act that is due
 
@@ -175,23 +175,23 @@ abbrev DueLeaves : Order → List ℕ → Due → Type 0
 DueLeaves order m (Does d) = LoudLeaves order m d
 DueLeaves order m _ = Unit {0}
 
-item_leaves : (order : Order) (m : List ℕ) (port : ℕ) (item : Item → Deed) (empty : Option Deed) (o : Option Item) → WantLeaves order m (Gets port item empty) → DueLeaves order m (by_item port item empty o)
+item_leaves : (order : Order) (m : List ℕ) (port : ℕ) (item : Item → Effect) (empty : Option Effect) (o : Option Item) → RequestLeaves order m (Gets port item empty) → DueLeaves order m (by_item port item empty o)
 item_leaves order m port item empty (Some x) w = λ h. w.0 x
 item_leaves order m port item (Some d) None w = λ h. w.1 d refl
 item_leaves order m port item None None w = tt
 
-room_leaves : (order : Order) (m : List ℕ) (port : ℕ) (room : Deed) (full : Option Deed) (b : Bool) → WantLeaves order m (Puts port room full) → DueLeaves order m (by_room port room full b)
+room_leaves : (order : Order) (m : List ℕ) (port : ℕ) (room : Effect) (full : Option Effect) (b : Bool) → RequestLeaves order m (Puts port room full) → DueLeaves order m (by_room port room full b)
 room_leaves order m port room full true w = λ h. w.0
 room_leaves order m port room (Some d) false w = λ h. w.1 d refl
 room_leaves order m port room None false w = tt
 
-home_leaves : (order : Order) (m : List ℕ) (d : Deed) (b : Bool) → LoudLeaves order m d → DueLeaves order m (if b then Ends else Does d)
-home_leaves order m d true w = tt
-home_leaves order m d false w = w
+halt_loop_leaves : (order : Order) (m : List ℕ) (d : Effect) (b : Bool) → LoudLeaves order m d → DueLeaves order m (if b then Ends else Does d)
+halt_loop_leaves order m d true w = tt
+halt_loop_leaves order m d false w = w
 
-reply_leaves : (order : Order) (m : List ℕ) (a : Arch) (w : Want) (s : Shown) → WantLeaves order m w → DueLeaves order m (reply a w s)
+reply_leaves : (order : Order) (m : List ℕ) (a : Arch) (w : Request) (s : Shown) → RequestLeaves order m w → DueLeaves order m (reply a w s)
 reply_leaves order m a (Goes d) s w = w
-reply_leaves order m a (Homes d) s w = home_leaves order m d (is_closed a s.hopes) w
+reply_leaves order m a (HaltLoop d) s w = halt_loop_leaves order m d (is_closed a s.hopes) w
 reply_leaves order m a (Gets port item empty) s w = item_leaves order m port item empty (s.first port) w
 reply_leaves order m a (Puts port room full) s w = room_leaves order m port room full (s.room port) w
 reply_leaves order m a (Reads addr answer) s w = λ h. w (s.bus_word addr)
@@ -199,14 +199,14 @@ reply_leaves order m a (Writes addr word answer) s w = λ h. w (s.bus_takes addr
 
 awake_leaves : (here : Option Here) (o : Operands) (a : Arch) (m : List ℕ) (s : Shown) (asleep : Bool) → DueLeaves a.order m (awake here o a m s asleep)
 awake_leaves here o a m s true = tt
-awake_leaves here o a m s false = reply_leaves a.order m a (wants here o a m) s (want_leaves here o a m)
+awake_leaves here o a m s false = reply_leaves a.order m a (requested here o a m) s (request_leaves here o a m)
 
 by_leaves : (here : Option Here) (o : Operands) (a : Arch) (m : List ℕ) (s : Shown) (t : Option Take) (c : Option StopCause) → DueLeaves a.order m (due_by here o a m s t c)
 by_leaves here o a m s t (Some cause) = tt
 by_leaves here o a m s (Some t) None = λ h. refl
 by_leaves here o a m s None None = awake_leaves here o a m s a.asleep
 
-due_leaves : (v : View) (s : Shown) (d : Deed) → due v s ≡ Does d → LoudLeaves v.arch.order v.memory d
+due_leaves : (v : View) (s : Shown) (d : Effect) → due v s ≡ Does d → LoudLeaves v.arch.order v.memory d
 unfolding due_with
 due_leaves v s d e = subst (DueLeaves v.arch.order v.memory) e (by_leaves (here_of v) (operands_of (here_of v) v.arch.regs) (bare v.arch) v.memory s (take_due (here_of v) (bare v.arch) s) v.arch.stopped)
 

@@ -8,7 +8,7 @@ use Rattle.isa_step.specs.declared.acts.Act.{Act}
 use Rattle.isa_step.specs.declared.acts.Act.TheVariants as acts
 use Rattle.isa_step.specs.declared.acts.Action.{Action}
 use Rattle.isa_step.specs.declared.acts.Action.TheVariants as action
-use Rattle.isa_step.specs.Deeds.{Deed, Due, Does, Waits, Sleeps, Ends, Stops}
+use Rattle.isa_step.specs.Effects.{Effect, Due, Does, Waits, Sleeps, Ends, Stops}
 use Rattle.isa_step.specs.Due.{due}
 use Rattle.run_journal.specs.declared.entry.Entry.{Entry}
 use Rattle.run_journal.specs.declared.entry.What.{What}
@@ -20,7 +20,7 @@ use Rattle.board_machine.specs.declared.events.HostPart.TheVariants.{Sends, Take
 use Rattle.uart_lite.specs.Machine.{leaving}
 use Rattle.board_machine.specs.Bus.{Serial}
 use Rattle.board_machine.specs.DeviceMoves.{devices_moved, in_order, intcs_moved, is_turn, left_at, left_of, line_change, line_driven, timers_moved, uart_cycled, uart_moved, with_devices}
-use Rattle.board_machine.specs.Fabric.{Fabric, act_leaves, breaks_come, entered, entered_some, entries_of_action, entry_of, entry_of_act, first_in, got_of, host_moves, is_kept, move_by, move_of, moved, next_sent, no_core, or_low, part_at, sent_of, shown, waited}
+use Rattle.board_machine.specs.Fabric.{Fabric, act_leaves, breaks_come, entered, entered_some, entries_of_action, entry_of, entry_of_act, first_in, got_of, host_moves, is_logged, move_by, move_of, moved, next_sent, no_core, or_low, part_at, sent_of, shown, waited}
 use Rattle.board_machine.specs.World.{CoreAt, Step, TickMay, World, acts_of, devices_done, line_latched}
 use Rattle.board_machine.proofs.DeviceSteps.{order_keeps}
 use Rattle.board_machine.proofs.Lists.{all_append}
@@ -79,13 +79,13 @@ act_made core (acts.Took t) = tt
 act_made core (acts.Raised esr) = refl
 act_made core (acts.Stopped cause) = refl
 
-act_stamped : (core act : ℕ) (deed : Deed) (f : Fabric) → AddedAll (IsStamped f.cycle (Tick core)) f (act_leaves core act deed f)
-act_stamped core act deed f =
-    let g = entered_some core act (entries_of_action deed.action) f in
-    and_more (IsStamped f.cycle (Tick core)) f g (act_leaves core act deed f)
-    (some_stamped (Tick core) core act (entries_of_action deed.action) f (action_made core deed.action))
-    (subst (λ c. AddedAll (IsStamped c (Tick core)) g (act_leaves core act deed f)) (some_cycle core act (entries_of_action deed.action) f)
-    (some_stamped (Tick core) core act (entry_of_act deed.done.act) g (act_made core deed.done.act)))
+act_stamped : (core act : ℕ) (effect : Effect) (f : Fabric) → AddedAll (IsStamped f.cycle (Tick core)) f (act_leaves core act effect f)
+act_stamped core act effect f =
+    let g = entered_some core act (entries_of_action effect.action) f in
+    and_more (IsStamped f.cycle (Tick core)) f g (act_leaves core act effect f)
+    (some_stamped (Tick core) core act (entries_of_action effect.action) f (action_made core effect.action))
+    (subst (λ c. AddedAll (IsStamped c (Tick core)) g (act_leaves core act effect f)) (some_cycle core act (entries_of_action effect.action) f)
+    (some_stamped (Tick core) core act (entry_of_act effect.done.act) g (act_made core effect.done.act)))
 
 wait_stamped : (core act : ℕ) (on : WaitOn) (f : Fabric) (b : Bool) → AddedAll (IsStamped f.cycle (Tick core)) f (cond b f (entered core act (Wait on) f))
 wait_stamped core act on f true = no_more _ f f refl
@@ -95,11 +95,11 @@ left_as : (P : Entry → Type 0) (f g h : Fabric) → h ≡ g → AddedAll P f g
 left_as P f g h e a = subst (AddedAll P f) (sym e) a
 
 tick_stamped : (core : ℕ) (d : Due) (s n : CoreAt) (f g : Fabric) → TickMay core d s f n g → AddedAll (IsStamped f.cycle (Tick core)) f g
-tick_stamped core (Does deed) s n f g (inl h) = left_as _ f (act_leaves core s.acts deed f) g h.fabric (act_stamped core s.acts deed f)
-tick_stamped core (Does deed) s n f g (inr h) = left_as _ f f g h.fabric (no_more _ f f refl)
+tick_stamped core (Does effect) s n f g (inl h) = left_as _ f (act_leaves core s.acts effect f) g h.fabric (act_stamped core s.acts effect f)
+tick_stamped core (Does effect) s n f g (inr h) = left_as _ f f g h.fabric (no_more _ f f refl)
 tick_stamped core (Waits port full) s n f g (inl h) =
     let on : WaitOn = record { port = port; full = full } in
-    left_as _ f (waited core s.acts on f) g h.fabric (wait_stamped core s.acts on f (is_kept core s.acts f.journal))
+    left_as _ f (waited core s.acts on f) g h.fabric (wait_stamped core s.acts on f (is_logged core s.acts f.journal))
 tick_stamped core (Waits port full) s n f g (inr h) = left_as _ f f g h.fabric (no_more _ f f refl)
 tick_stamped core Sleeps s n f g h = left_as _ f f g h.fabric (no_more _ f f refl)
 tick_stamped core Ends s n f g h = left_as _ f f g h.fabric (no_more _ f f refl)

@@ -8,19 +8,19 @@ use Rattle.isa_step.specs.declared.acts.Act.{Act}
 use Rattle.isa_step.specs.declared.acts.Act.TheVariants as acts
 use Rattle.isa_step.specs.declared.acts.Action.{Action}
 use Rattle.isa_step.specs.declared.acts.Action.TheVariants as action
-use Rattle.isa_step.specs.Deeds.{Deed}
+use Rattle.isa_step.specs.Effects.{Effect}
 use Rattle.run_journal.specs.declared.entry.Entry.{Entry}
 use Rattle.run_journal.specs.declared.entry.What.{What}
 use Rattle.run_journal.specs.declared.entry.What.TheVariants.{Wait}
 use Rattle.board_machine.specs.declared.events.Event.{Event}
 use Rattle.board_machine.specs.declared.events.Event.TheVariants.{Tick}
-use Rattle.board_machine.specs.Fabric.{Fabric, act_leaves, entered, entered_some, entries_of_action, entry_of, entry_of_act, is_wait, kept_after, kept_wait}
+use Rattle.board_machine.specs.Fabric.{Fabric, act_leaves, entered, entered_some, entries_of_action, entry_of, entry_of_act, is_wait, kept_after, logged_wait}
 use Rattle.board_machine.specs.World.{Step, World}
 use Rattle.machine_laws.specs.Stamps.{IsStamped, maker}
 use Rattle.machine_laws.proofs.Stamping.{step_stamped}
 
-kept_append : (core : ℕ) (journal es : List Entry) → kept_wait core (journal ++ es) ≡ fold (kept_after core) (kept_wait core journal) es
-unfolding kept_wait
+kept_append : (core : ℕ) (journal es : List Entry) → logged_wait core (journal ++ es) ≡ fold (kept_after core) (logged_wait core journal) es
+unfolding logged_wait
 kept_append core journal es = fold-append (kept_after core) None journal es
 
 -- an entry that is no wait of this core
@@ -43,10 +43,10 @@ all_pass core cycle event kept [] ne h = refl
 all_pass core cycle event kept (e ∷ es) ne h =
     ap (λ k. fold (kept_after core) k es) (passes core kept e (not_wait core e e.what event refl h.0.made ne)) ∙ all_pass core cycle event kept es ne h.1
 
-pub others_keep : (core : ℕ) (w v : World) (event : Event) → (event ≡ Tick core → ⊥) → Step w event v → kept_wait core v.fabric.journal ≡ kept_wait core w.fabric.journal
+pub others_keep : (core : ℕ) (w v : World) (event : Event) → (event ≡ Tick core → ⊥) → Step w event v → logged_wait core v.fabric.journal ≡ logged_wait core w.fabric.journal
 others_keep core w v event ne h =
     let s = step_stamped w v event h in
-    ap (kept_wait core) s.journal ∙ kept_append core w.fabric.journal s.added ∙ all_pass core w.fabric.cycle event (kept_wait core w.fabric.journal) s.added ne s.each
+    ap (logged_wait core) s.journal ∙ kept_append core w.fabric.journal s.added ∙ all_pass core w.fabric.cycle event (logged_wait core w.fabric.journal) s.added ne s.each
 
 -- entries of acts
 
@@ -76,19 +76,19 @@ act_no_wait (acts.Took t) = tt
 act_no_wait (acts.Raised esr) = refl
 act_no_wait (acts.Stopped cause) = refl
 
-some_kept : (core act : ℕ) (o : Option What) (f : Fabric) → IsNoWait o → kept_wait core (entered_some core act o f).journal ≡ kept_wait core f.journal
+some_kept : (core act : ℕ) (o : Option What) (f : Fabric) → IsNoWait o → logged_wait core (entered_some core act o f).journal ≡ logged_wait core f.journal
 unfolding IsNoWait
 some_kept core act None f h = refl
 some_kept core act (Some what) f h =
     kept_append core f.journal (entry_of f.cycle core act what ∷ [])
-    ∙ passes core (kept_wait core f.journal) (entry_of f.cycle core act what) (ap (λ b. core == core && b) h ∙ and_no (core == core))
+    ∙ passes core (logged_wait core f.journal) (entry_of f.cycle core act what) (ap (λ b. core == core && b) h ∙ and_no (core == core))
 
-pub acts_keep : (core act : ℕ) (deed : Deed) (f : Fabric) → kept_wait core (act_leaves core act deed f).journal ≡ kept_wait core f.journal
-acts_keep core act deed f =
-    some_kept core act (entry_of_act deed.done.act) (entered_some core act (entries_of_action deed.action) f) (act_no_wait deed.done.act)
-    ∙ some_kept core act (entries_of_action deed.action) f (action_no_wait deed.action)
+pub acts_keep : (core act : ℕ) (effect : Effect) (f : Fabric) → logged_wait core (act_leaves core act effect f).journal ≡ logged_wait core f.journal
+acts_keep core act effect f =
+    some_kept core act (entry_of_act effect.done.act) (entered_some core act (entries_of_action effect.action) f) (act_no_wait effect.done.act)
+    ∙ some_kept core act (entries_of_action effect.action) f (action_no_wait effect.action)
 
-pub wait_keeps : (core act : ℕ) (on : WaitOn) (f : Fabric) → kept_wait core (entered core act (Wait on) f).journal ≡ Some act
+pub wait_keeps : (core act : ℕ) (on : WaitOn) (f : Fabric) → logged_wait core (entered core act (Wait on) f).journal ≡ Some act
 wait_keeps core act on f =
     kept_append core f.journal (entry_of f.cycle core act (Wait on) ∷ [])
-    ∙ ap (λ b. cond (b && true) (Some act) (kept_wait core f.journal)) (eq-eqb core core refl)
+    ∙ ap (λ b. cond (b && true) (Some act) (logged_wait core f.journal)) (eq-eqb core core refl)

@@ -1,13 +1,13 @@
 -- Acts that enter nothing, and acts that enter something.
 use Rattle.std.specs.Prelude.{◌≡◌, ◌&&◌, Bool, true, false, None, is_none}
-use Rattle.isa_step.specs.Deeds.{View, Deed, Does, after}
+use Rattle.isa_step.specs.Effects.{View, Effect, Does, after}
 use Rattle.isa_step.specs.Due.{due}
 use Rattle.isa_step.specs.Shown.{Shown}
 use Rattle.board_machine.specs.Fabric.{entry_of_act}
 
 -- an act that has no entry
-abbrev pub is_silent : Deed → Bool
-is_silent deed = is_none deed.action && is_none (entry_of_act deed.done.act)
+abbrev pub is_silent : Effect → Bool
+is_silent effect = is_none effect.action && is_none (entry_of_act effect.done.act)
 
 pub record IsAwake (v : View) : Type 0 where
   pub asleep : v.arch.asleep ≡ false
@@ -15,9 +15,9 @@ pub record IsAwake (v : View) : Type 0 where
 
 -- an act without an entry leaves a core awake that was awake, and running that ran
 pub record SilentActsStayAwake : Type 0 where
-  pub before : (v : View) (s : Shown) (deed : Deed) → due v s ≡ Does deed → is_silent deed ≡ true → IsAwake v
-  pub later : (v : View) (s : Shown) (deed : Deed) → due v s ≡ Does deed → is_silent deed ≡ true → IsAwake (after v deed)
+  pub before : (v : View) (s : Shown) (effect : Effect) → due v s ≡ Does effect → is_silent effect ≡ true → IsAwake v
+  pub later : (v : View) (s : Shown) (effect : Effect) → due v s ≡ Does effect → is_silent effect ≡ true → IsAwake (after v effect)
 
 -- an act with an entry leaves the memory
 pub record LoudActsKeepMemory : Type 0 where
-  pub memory : (v : View) (s : Shown) (deed : Deed) → due v s ≡ Does deed → is_silent deed ≡ false → (after v deed).memory ≡ v.memory
+  pub memory : (v : View) (s : Shown) (effect : Effect) → due v s ≡ Does effect → is_silent effect ≡ false → (after v effect).memory ≡ v.memory

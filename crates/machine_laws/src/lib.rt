@@ -10,7 +10,7 @@ ghost use Rattle.machine_laws.specs.Holding.{EachStateHolds};
 ghost use Rattle.machine_laws.specs.Silence.{LoudActsKeepMemory, SilentActsStayAwake};
 ghost use Rattle.machine_laws.specs.Stamps.{EntriesAreStamped};
 
-/// In every reached state lines are high and breaks are pending only where they are hoped for, the lists have an element
+/// In every reached state lines are high and breaks are pending only where they are announced for, the lists have an element
 /// for each core, link or device, no Wait entry is of an act beyond its core's acts, and a wait is kept only where the core
 /// stands at a link access that waits.
 #[tactic(auto, using(crate::proofs::Holding::each_state_holds))]

@@ -1,12 +1,12 @@
 -- From what the parts of a run of a board say to what its status says.
 use Rattle.std.proofs.lemmas.Option.{same_Some}
-use Rattle.std.proofs.Common.{◌≡◌, ◌⊎◌, inl, inr, zero, suc, ℕ, ◌≤◌, ◌<◌, List, [], ◌∷◌, ◌++◌, length, map, Option, Some, None, Result, Ok, Err, Bool, true, false, refl, sym, ap, subst, ◌∙◌, arith, slice_get}
-use Rattle.std.specs.Prelude.{⊤, ◌||◌, IfOk, codes, unwrap_or}
+use Rattle.std.proofs.Common.{◌≡◌, ◌⊎◌, inl, inr, zero, suc, ℕ, List, [], ◌∷◌, length, Option, Some, None, Result, Ok, Err, Bool, true, false, refl, sym, ap, subst, ◌∙◌, slice_get}
+use Rattle.std.specs.Prelude.{⊤, ◌||◌, IfOk, unwrap_or}
 use Rattle.std.specs.Result.{result_ok}
 use Rattle.std.specs.List.{list_any}
 use Rattle.std.specs.Str.{bytes_eq}
-use Rattle.isa_step.specs.Deeds.{View}
-use Rattle.host_io.specs.Outside.{Adds, Files, ShelfState, SinkState}
+use Rattle.isa_step.specs.Effects.{View}
+use Rattle.host_io.specs.Outside.{Files, ShelfState, SinkState}
 use Rattle.host_io.specs.declared.faults.StoreFault.{StoreFault}
 use Rattle.run_journal.specs.declared.entry.Entry.{Entry}
 use Rattle.board_file.specs.declared.board.BoardFile.{BoardFile}
@@ -17,34 +17,33 @@ use Rattle.exact_machine.specs.Runs.{ExactRun, exact_start}
 use Rattle.board_run.specs.Runs.{IsRunOf}
 use Rattle.board_run.proofs.WholeRuns.{run_of}
 use Rattle.job_laws.proofs.Jobs.{jobs_follow}
-use Rattle.host_io.specs.Outside.{CountsWriteFault}
 use Rattle.host_io.specs.declared.faults.StoreFault.TheVariants as store
 use Rattle.board_file.specs.declared.board.CoreRow.{CoreRow}
-use Rattle.board_file.specs.declared.board.End.TheVariants.{File}
-use Rattle.board_file.specs.declared.board.LinkRow.{LinkRow}
-use Rattle.board_file.specs.declared.board.UartRow.{UartRow}
 use Rattle.board_machine.specs.declared.events.Rest.TheVariants as rest
 use Rattle.board_machine.specs.declared.events.RunEnd.TheVariants as end
-use Rattle.board_sound.proofs.Distinct.{no_output}
-use Rattle.board_sound.proofs.Soundness.{read_is_sound}
+use Rattle.board_file_laws.proofs.Distinct.{no_output}
+use Rattle.board_file_laws.proofs.Soundness.{read_is_sound}
 use Rattle.board_load.specs.Jobs.{AreCoresOf, IsJobOf}
+use Rattle.board_load.specs.Loading.{Refuses}
+use Rattle.board_load.specs.declared.refusal.Refusal.{Refusal}
 use Rattle.board_load.specs.Named.{core_names, end_names, input_names, link_names, names_file, names_journal, uart_names}
-use Rattle.board_sound.specs.Sound.{output_files}
+use Rattle.board_file_laws.specs.Sound.{output_files}
 use Rattle.host_io.specs.declared.faults.ShelfFaults.{ShelfFaults}
-use Rattle.command_words.proofs.Filled.{same_text}
-use Rattle.output_names.specs.Apart.{IsNoOutput}
-use Rattle.output_names.proofs.Apart.{outputs_apart}
+use Rattle.command_line.proofs.Filled.{same_text}
+use Rattle.run_output_laws.specs.Apart.{IsNoOutput}
+use Rattle.run_output_laws.proofs.Apart.{outputs_apart}
 use Rattle.run_output.proofs.InOrder.{tells}
-use Rattle.piece_output.specs.Stored.{Wrote}
 use Rattle.run_output.specs.declared.outputs.OutputFault.TheVariants as output
 use Rattle.run_output.specs.Outputs.{AreApart, Output, WroteAll, WroteOutputs, outputs_of}
 use Rattle.run_output.specs.Report.{report_text}
 use Rattle.run_output.specs.declared.outputs.OutputFault.{OutputFault}
+use Rattle.probe_set.specs.Sets.{Named}
 use Rattle.mb_sim.specs.declared.status.Status.{Status}
 use Rattle.mb_sim.specs.declared.run.RunWords.{RunWords}
-use Rattle.mb_sim.specs.Board.{HasRun, Names, Plays, Prints, Puts, PutsOut, Says, all_out, all_written, ends_of, file_refused, file_stops, printed, report_of, report_refused, report_stops, status_of_sink, stopped, store_of}
+use Rattle.mb_sim.specs.Board.{HasRun, Plays, Prints, Puts, PutsOut, Says, all_out, all_written, ends_of, file_refused, file_stops, printed, refused, report_of, report_refused, report_stops, status_of_refusal, stopped}
 use Rattle.mb_sim.specs.Top.{CountsLoads, CountsWrites}
 use Rattle.mb_sim.specs.Runs.{code_of, status_of}
+use Rattle.mb_sim.proofs.Probes.{tells_all}
 
 pub report_is : (board : BoardFile) (last : ExactWorld) (how : RunEnd) (entries : List Entry) (code cycles : ℕ) → entries ≡ last.fabric.journal → code ≡ code_of (status_of how) → cycles ≡ last.fabric.cycle
     → report_text board (ends_of last) entries code cycles ≡ report_of board last how
@@ -115,27 +114,33 @@ apart files file journal board views inputs entries job =
 
 -- what was written
 
-put_out_to : (words : RunWords) (board : BoardFile) (last : ExactWorld) (shelf shelf' : ShelfState) (result : Result ⊤ StoreFault) → AreApart (outputs_of board last.fabric.journal words.journal)
+write_results_to : (words : RunWords) (board : BoardFile) (last : ExactWorld) (shelf shelf' : ShelfState) (result : Result ⊤ StoreFault) → AreApart (outputs_of board last.fabric.journal words.journal)
     → WroteAll shelf shelf' (outputs_of board last.fabric.journal words.journal) result → Puts words board last shelf shelf' result
-put_out_to words board last shelf shelf' result a w = record { in_order = w; places = tells shelf shelf' (outputs_of board last.fabric.journal words.journal) result a w }
+write_results_to words board last shelf shelf' result a w = record { in_order = w; places = tells shelf shelf' (outputs_of board last.fabric.journal words.journal) result a w }
 
-says_puts : (words : RunWords) (shelf shelf' : ShelfState) (out out' : SinkState) (status : Status) (board : BoardFile) (last : ExactWorld) (how : RunEnd) → HasRun words shelf.files board last how
-    → AreApart (outputs_of board last.fabric.journal words.journal) → PutsOut words.journal board last how shelf shelf' out out' status → Says words shelf shelf' out out' status
-says_puts words shelf shelf' out out' status board last how has a (all_out w p) = all_written board last how has (put_out_to words board last shelf shelf' (Ok tt) a w) p
-says_puts words shelf shelf' out out' status board last how has a (file_stops (output.Failed file) w e) = file_refused board last how (output.Failed file) has (put_out_to words board last shelf shelf' (Err store.Failed) a w.0) w.1 e
-says_puts words shelf shelf' out out' status board last how has a (file_stops output.NoMemory w e) = file_refused board last how output.NoMemory has (put_out_to words board last shelf shelf' (Err store.NoMemory) a w) tt e
-says_puts words shelf shelf' out out' status board last how has a (report_stops fault w p) = report_refused board last how fault has (put_out_to words board last shelf shelf' (Ok tt) a w) p
+says_puts : (words : RunWords) (shelf shelf' : ShelfState) (out out' : SinkState) (probes probes' : List Named) (status : Status) (board : BoardFile) (last : ExactWorld) (how : RunEnd) → HasRun words shelf.files probes probes' board last how
+    → AreApart (outputs_of board last.fabric.journal words.journal) → PutsOut words.journal board last how shelf shelf' out out' status → Says words shelf shelf' out out' probes probes' status
+says_puts words shelf shelf' out out' probes probes' status board last how has a (all_out w p) = all_written board last how has (write_results_to words board last shelf shelf' (Ok tt) a w) p
+says_puts words shelf shelf' out out' probes probes' status board last how has a (file_stops (output.Failed file) w e) = file_refused board last how (output.Failed file) has (write_results_to words board last shelf shelf' (Err store.Failed) a w.0) w.1 e
+says_puts words shelf shelf' out out' probes probes' status board last how has a (file_stops output.NoMemory w e) = file_refused board last how output.NoMemory has (write_results_to words board last shelf shelf' (Err store.NoMemory) a w) tt e
+says_puts words shelf shelf' out out' probes probes' status board last how has a (report_stops fault w p) = report_refused board last how fault has (write_results_to words board last shelf shelf' (Ok tt) a w) p
 
-pub says_played : (words : RunWords) (shelf mid shelf' : ShelfState) (out out' : SinkState) (status : Status) (board file : BoardFile) (views : List View) (inputs : Inputs) (first : ExactWorld)
+-- a board that was refused
+pub says_refused : (words : RunWords) (shelf shelf' : ShelfState) (out : SinkState) (probes : List Named) (status : Status) (cause : Refusal) → status ≡ status_of_refusal cause
+    → Refuses shelf shelf' words.file words.journal cause → shelf'.files ≡ shelf.files → Says words shelf shelf' out out probes probes status
+says_refused words shelf shelf' out probes status cause is refuses same =
+    subst (Says words shelf shelf' out out probes probes) (sym is) (refused cause refuses same refl refl)
+
+pub says_played : (words : RunWords) (shelf mid shelf' : ShelfState) (out out' : SinkState) (probes probes' : List Named) (status : Status) (board file : BoardFile) (views : List View) (inputs : Inputs) (first : ExactWorld)
     → IsJobOf shelf.files words.file words.journal board views inputs → file ≡ board → first ≡ exact_start board views inputs words.entries → mid ≡ shelf
-    → Plays words file first mid shelf' out out' status → Says words shelf shelf' out out' status
-says_played words shelf mid shelf' out out' status board file views inputs first job same began quiet p =
+    → Plays words file first mid shelf' out out' probes probes' status → Says words shelf shelf' out out' probes probes' status
+says_played words shelf mid shelf' out out' probes probes' status board file views inputs first job same began quiet p =
     let P : BoardFile → Type 0 = λ b. PutsOut words.journal b p.last p.how mid shelf' out out' status in
     let Q : ShelfState → Type 0 = λ s. PutsOut words.journal board p.last p.how s shelf' out out' status in
     let R : ExactWorld → Type 0 = λ x. ExactRun words.cycles x p.last p.how in
     let ran : IsRunOf board views inputs words.entries words.cycles p.last p.how =
     run_of board views inputs words.entries words.cycles p.last p.how (loaded_count shelf.files board.network board.cores views job.has_cores) (subst R began p.ran) in
-    says_puts words shelf shelf' out out' status board p.last p.how
+    says_puts words shelf shelf' out out' probes probes' status board p.last p.how
     (record {
       views = views;
       inputs = inputs;
@@ -143,6 +148,7 @@ says_played words shelf mid shelf' out out' status board file views inputs first
       ran = ran;
       network = λ is. jobs_follow.follows shelf.files board views inputs ran.open_last
           (record { file = words.file; journal = words.journal; job = job; network = is; first = ran.is_run.first; began = ran.is_run.began; count = ran.is_run.ran.count; ran = ran.is_run.ran.cycles });
+      tells = tells_all board views inputs words.entries first p.last probes probes' began p.tells;
     })
     (apart shelf.files words.file words.journal board views inputs p.last.fabric.journal job) (subst Q quiet (subst P same p.puts))
 

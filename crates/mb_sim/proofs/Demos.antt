@@ -1,5 +1,5 @@
 -- What follows for the status of `demo`.
-use Rattle.std.proofs.Common.{◌≡◌, ℕ, Option, Some, inl, inr, refl, sym, ap, subst}
+use Rattle.std.proofs.Common.{◌≡◌, ℕ, List, Option, Some, inl, inr, refl, sym, ap, subst}
 use Rattle.std.specs.Prelude.{Result, Ok, Err}
 use Rattle.host_io.specs.Outside.{Rose, ShelfState, SinkState}
 use Rattle.host_io.specs.declared.faults.StoreFault.{StoreFault}
@@ -7,11 +7,12 @@ use Rattle.host_io.specs.declared.faults.StoreFault.TheVariants as store
 use Rattle.board_machine.specs.declared.events.Rest.TheVariants as rest
 use Rattle.board_machine.specs.declared.events.RunEnd.{RunEnd}
 use Rattle.board_machine.specs.declared.events.RunEnd.TheVariants as end
-use Rattle.command_words.specs.declared.command.Command.{Command}
-use Rattle.command_words.specs.declared.command.Command.TheVariants.{Demo}
+use Rattle.command_line.specs.declared.command.Command.{Command}
+use Rattle.command_line.specs.declared.command.Command.TheVariants.{Demo}
 use Rattle.ring_demo.specs.Demo.{Shows}
 use Rattle.mb_sim.specs.declared.status.Status.{Status}
-use Rattle.mb_sim.specs.declared.status.Status.TheVariants.{Ended, Waiting, Stopped, CyclesSpent, JournalFull, Usage, ReadFault, BadBoard, BadImage, WriteFault, NoMemory, BadSource, BadInput, TooLong}
+use Rattle.mb_sim.specs.declared.status.Status.TheVariants.{Ended, Waiting, Stopped, CyclesSpent, JournalFull, Usage, ReadFault, BadBoard, BadImage, WriteFault, NoMemory, BadScript, BadSource, BadInput, TooLong}
+use Rattle.probe_set.specs.Sets.{Named}
 use Rattle.mb_sim.specs.Demo.{IsShown, status_of_demo}
 use Rattle.mb_sim.specs.Runs.{status_of}
 use Rattle.mb_sim.specs.Top.{Answers, CountsLoads, CountsWrites, HasRun}
@@ -23,11 +24,11 @@ shown_runs number out out' (Ok how) shows quiet = ended how
 shown_runs number out out' (Err store.Failed) (runs, has, prints) quiet = absurd (quiet prints.1.0)
 shown_runs number out out' (Err store.NoMemory) shows quiet = tt
 
-pub demo_runs : (o : Option Command) (number : ℕ) (shelf shelf' : ShelfState) (out out' : SinkState) (s : Status) → Answers o shelf shelf' out out' s → o ≡ Some (Demo number)
+pub demo_runs : (o : Option Command) (number : ℕ) (shelf shelf' : ShelfState) (out out' : SinkState) (probes probes' : List Named) (s : Status) → Answers o shelf shelf' out out' probes probes' s → o ≡ Some (Demo number)
     → ¬ Rose out.faults out'.faults → HasRun s
-demo_runs o number shelf shelf' out out' s says is quiet =
-    let P : Option Command → Type 0 = λ o. Answers o shelf shelf' out out' s in
-    let shown : IsShown number out out' s = (subst P is says).shown in
+demo_runs o number shelf shelf' out out' probes probes' s says is quiet =
+    let P : Option Command → Type 0 = λ o. Answers o shelf shelf' out out' probes probes' s in
+    let shown : IsShown number out out' s = (subst P is says).0.shown in
     subst HasRun (sym shown.is) (shown_runs number out out' shown.result shown.shows quiet)
 
 -- a write that failed is answered by its fault
@@ -64,6 +65,7 @@ same_loads count (BadImage core code at) = refl
 same_loads count (WriteFault file) = refl
 same_loads count NoMemory = refl
 same_loads count (BadSource code line column) = refl
+same_loads count (BadScript code line) = refl
 same_loads count (BadInput file offset) = refl
 same_loads count (TooLong file) = refl
 
@@ -80,5 +82,6 @@ same_writes count (BadImage core code at) = refl
 same_writes count (WriteFault file) = tt
 same_writes count NoMemory = refl
 same_writes count (BadSource code line column) = refl
+same_writes count (BadScript code line) = refl
 same_writes count (BadInput file offset) = refl
 same_writes count (TooLong file) = refl

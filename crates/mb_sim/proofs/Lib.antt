@@ -6,6 +6,7 @@ mod Boards
 mod Exact
 mod FairRuns
 mod Demos
+mod Debugging
 mod RawSays
 pub mod ToolSays
 mod Probes

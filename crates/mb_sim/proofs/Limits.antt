@@ -5,9 +5,11 @@ use Rattle.std.specs.List.{list_all}
 use Rattle.std.specs.Str.{bytes_eq}
 use Rattle.std.proofs.lemmas.Bool.Decides.{nat_tests}
 use Rattle.std.proofs.lemmas.Option.{same_Some}
-use Rattle.command_words.specs.declared.command.Command.{Command}
-use Rattle.command_words.specs.declared.command.Command.TheVariants.{Asm, Demo, Dis, Profile, Raw, Run}
-use Rattle.command_words.specs.Words.{Form, Part, Text, asm_form, asm_of, asm_with, at_most_once, command_of, decimal_value, demo_form, demo_with, dis_form, dis_with, file_in, is_known, is_number, is_raised, most_cycles, most_number, number_in, parts, places, profile_form, profile_of, profile_with, raw_form, raw_of, raw_with, run_form, run_of, run_with, said, values}
+use Rattle.command_line.specs.declared.command.Command.{Command}
+use Rattle.command_line.specs.declared.command.Command.TheVariants.{Asm, Debug, Demo, Dis, Profile, Raw, Run}
+use Rattle.command_line.specs.declared.command.BoardCommand.{BoardCommand}
+use Rattle.command_line.specs.declared.command.BoardCommand.TheVariants as on_board
+use Rattle.command_line.specs.Words.{Form, Part, Text, asm_form, asm_of, asm_with, at_most_once, board_form, board_of, board_with, command_of, decimal_value, demo_form, demo_with, dis_form, dis_with, file_in, is_known, is_number, is_raised, most_cycles, most_number, number_in, parts, places, raw_form, raw_of, raw_with, run_form, run_of, run_with, said, values}
 
 abbrev pub cycles_of : Command → ℕ
 cycles_of (Raw file cycles) = cycles
@@ -16,6 +18,7 @@ cycles_of (Asm source output is_little) = 0
 cycles_of (Dis image) = 0
 cycles_of (Demo number) = 0
 cycles_of (Profile board cycles entries) = cycles
+cycles_of (Debug board cycles entries) = cycles
 
 pub record IsSmall (c : Command) : Type 0 where
   pub cycles : cycles_of c ≤ 1_000_000_000_000
@@ -60,16 +63,17 @@ run_small (board ∷ []) cycles journal write_journal c e = run_by (file_in boar
 run_small (board ∷ more ∷ others) cycles journal write_journal c e = cc
 run_small [] cycles journal write_journal c e = cc
 
-profile_by : (board : Option Text) (cycles journal : Option ℕ) (c : Command) → ((n : ℕ) → cycles ≡ Some n → n ≤ 1_000_000_000_000) → profile_of board cycles journal ≡ Some c → IsSmall c
-profile_by (Some board) (Some cycles) (Some journal) c h e = subst IsSmall (same_Some _ _ e) (record { cycles = h cycles refl })
-profile_by (Some board) (Some cycles) None c h e = cc
-profile_by (Some board) None j c h e = cc
-profile_by None x j c h e = cc
+board_by : (kind : BoardCommand) (board : Option Text) (cycles journal : Option ℕ) (c : Command) → ((n : ℕ) → cycles ≡ Some n → n ≤ 1_000_000_000_000) → board_of kind board cycles journal ≡ Some c → IsSmall c
+board_by on_board.Profile (Some board) (Some cycles) (Some journal) c h e = subst IsSmall (same_Some _ _ e) (record { cycles = h cycles refl })
+board_by on_board.Debug (Some board) (Some cycles) (Some journal) c h e = subst IsSmall (same_Some _ _ e) (record { cycles = h cycles refl })
+board_by kind (Some board) (Some cycles) None c h e = cc
+board_by kind (Some board) None j c h e = cc
+board_by kind None x j c h e = cc
 
-profile_small : (words cycles journal : List Text) (c : Command) → profile_with words cycles journal ≡ Some c → IsSmall c
-profile_small (board ∷ []) cycles journal c e = profile_by (file_in board) (at_most_once 10_000_000 (number_in most_cycles) cycles) _ c (once_small cycles) e
-profile_small (board ∷ more ∷ others) cycles journal c e = cc
-profile_small [] cycles journal c e = cc
+board_small : (kind : BoardCommand) (words cycles journal : List Text) (c : Command) → board_with kind words cycles journal ≡ Some c → IsSmall c
+board_small kind (board ∷ []) cycles journal c e = board_by kind (file_in board) (at_most_once 10_000_000 (number_in most_cycles) cycles) _ c (once_small cycles) e
+board_small kind (board ∷ more ∷ others) cycles journal c e = cc
+board_small kind [] cycles journal c e = cc
 
 all_small : (form : Form) → ((words : List Text) (values : Text → List Text) (c : Command) → form.meaning words values ≡ Some c → IsSmall c) → (b : Bool) (words : List Text) (values : Text → List Text) (c : Command) → cond b (form.meaning words values) None ≡ Some c → IsSmall c
 all_small form h true words values c e = h words values c e
@@ -115,7 +119,7 @@ by_word true a b c p q e = p e
 by_word false a b c p q e = q e
 
 pub command_small : (words : List Text) (c : Command) → command_of words ≡ Some c → IsSmall c
-unfolding command_of raw_form run_form asm_form dis_form demo_form profile_form
+unfolding command_of raw_form run_form asm_form dis_form demo_form board_form
 command_small [] c e = cc
 command_small (word ∷ words) c e =
     by_word (bytes_eq word (codes "raw")) _ _ c (said_small raw_form (λ ws vs c e. raw_small ws c e) (parts [] None words) c)
@@ -123,5 +127,6 @@ command_small (word ∷ words) c e =
     (by_word (bytes_eq word (codes "asm")) _ _ c (said_small asm_form (λ ws vs c e. asm_small ws (vs (codes "little")) c e) (parts (codes "little" ∷ []) None words) c)
     (by_word (bytes_eq word (codes "dis")) _ _ c (said_small dis_form (λ ws vs c e. dis_small ws c e) (parts [] None words) c)
     (by_word (bytes_eq word (codes "demo")) _ _ c (said_small demo_form (λ ws vs c e. demo_small ws c e) (parts [] None words) c)
-    (by_word (bytes_eq word (codes "profile")) _ None c (said_small profile_form (λ ws vs c e. profile_small ws (vs (codes "cycles")) (vs (codes "journal")) c e) (parts [] None words) c) (λ e. cc))))))
+    (by_word (bytes_eq word (codes "profile")) _ _ c (said_small (board_form on_board.Profile) (λ ws vs c e. board_small on_board.Profile ws (vs (codes "cycles")) (vs (codes "journal")) c e) (parts [] None words) c)
+    (by_word (bytes_eq word (codes "debug")) _ None c (said_small (board_form on_board.Debug) (λ ws vs c e. board_small on_board.Debug ws (vs (codes "cycles")) (vs (codes "journal")) c e) (parts [] None words) c) (λ e. cc)))))))
     e

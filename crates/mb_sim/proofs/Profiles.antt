@@ -2,7 +2,7 @@
 use Rattle.std.proofs.Common.{◌≡◌, ℕ, zero, suc, ◌<◌, List, length, Option, Some, None, Result, Ok, Err, refl, sym, ap, subst, ◌∙◌, arith, slice_get, replicate}
 use Rattle.std.proofs.lemmas.Option.{slice_get_within}
 use Rattle.std.specs.Prelude.{⊤}
-use Rattle.isa_step.specs.Deeds.{View}
+use Rattle.isa_step.specs.Effects.{View}
 use Rattle.host_io.specs.Outside.{Adds, ShelfState, SinkState}
 use Rattle.host_io.specs.declared.faults.StoreFault.{StoreFault}
 use Rattle.host_io.specs.declared.faults.StoreFault.TheVariants as store
@@ -11,6 +11,8 @@ use Rattle.board_file.specs.declared.board.BoardFile.{BoardFile}
 use Rattle.board_file.specs.declared.board.CoreRow.{CoreRow}
 use Rattle.board_load.proofs.NotRefused.{not_refused}
 use Rattle.board_load.specs.Jobs.{IsJobOf}
+use Rattle.board_load.specs.Loading.{Refuses}
+use Rattle.board_load.specs.declared.refusal.Refusal.{Refusal}
 use Rattle.board_machine.specs.World.{Inputs}
 use Rattle.board_machine.specs.declared.events.RunEnd.{RunEnd}
 use Rattle.board_profile.specs.Profiles.{Profiled, ProfiledRun}
@@ -20,20 +22,21 @@ use Rattle.exact_machine.specs.Runs.{ExactRun, exact_events, exact_start}
 use Rattle.exact_machine.proofs.Joins.{runs_join}
 use Rattle.exact_machine.proofs.Profiles.{profiles_add_up}
 use Rattle.board_run.proofs.WholeRuns.{run_count, run_of}
-use Rattle.board_run.specs.Runs.{IsRunOf}
 use Rattle.job_laws.proofs.Jobs.{jobs_follow}
-use Rattle.command_words.specs.declared.command.Command.{Command}
-use Rattle.command_words.specs.declared.command.Command.TheVariants.{Profile as ProfileOf}
+use Rattle.command_line.specs.declared.command.Command.{Command}
+use Rattle.command_line.specs.declared.command.Command.TheVariants.{Profile as ProfileOf}
 use Rattle.run_output.specs.Report.{report_text}
 use Rattle.piece_output.proofs.Added.{adds_cut, adds_then}
-use Rattle.mb_sim.specs.Board.{ends_of, report_of}
+use Rattle.probe_set.specs.Sets.{Named}
+use Rattle.mb_sim.specs.Board.{ends_of, report_of, status_of_refusal}
 use Rattle.mb_sim.specs.Profiled.{AreProfiles, PlaysProfiled, PrintsProfiled, SaysProfile, no_memory, printed, profile_lines, profile_text, ran, refused, stopped}
 use Rattle.mb_sim.specs.Runs.{code_of, status_of}
 use Rattle.mb_sim.specs.Top.{Answers, CountsLoads, CountsWrites, HasRun, IsFairRun}
 use Rattle.mb_sim.specs.declared.run.RunWords.{RunWords}
 use Rattle.mb_sim.specs.declared.status.Status.{Status}
 use Rattle.mb_sim.proofs.Boards.{ended_loads, ended_writes, loaded_count, report_is}
-use Rattle.mb_sim.proofs.FairRuns.{ended, mishap, printed as not_printed}
+use Rattle.mb_sim.proofs.Probes.{tells_all}
+use Rattle.mb_sim.proofs.FairRuns.{ended, environment_failure, printed as not_printed}
 
 -- a run from a board's beginning, each tick of which was counted
 
@@ -65,11 +68,17 @@ are_profiles b views inputs room limit last how r core s at =
     let there = ap (λ (x : ExactWorld). slice_get x.cores core) (sym (r.ran.ran ∙ runs_join.events start r.ran.count)) ∙ at in
     (r.counted core s at, (profiles_add_up.ticks b views inputs room events core s there).0)
 
-pub says_counted : (words : RunWords) (shelf shelf' : ShelfState) (out out' : SinkState) (status : Status) (board file : BoardFile) (views : List View) (inputs : Inputs) (first : Profiled)
+-- a board that was refused
+pub says_not_counted : (words : RunWords) (shelf shelf' : ShelfState) (out : SinkState) (probes : List Named) (status : Status) (cause : Refusal) → status ≡ status_of_refusal cause
+    → Refuses shelf shelf' words.file words.journal cause → shelf'.files ≡ shelf.files → SaysProfile words shelf shelf' out out probes probes status
+says_not_counted words shelf shelf' out probes status cause is refuses same =
+    subst (SaysProfile words shelf shelf' out out probes probes) (sym is) (refused cause refuses same refl refl)
+
+pub says_counted : (words : RunWords) (shelf shelf' : ShelfState) (out out' : SinkState) (probes probes' : List Named) (status : Status) (board file : BoardFile) (views : List View) (inputs : Inputs) (first : Profiled)
     → IsJobOf shelf.files words.file words.journal board views inputs → file ≡ board → first.world ≡ exact_start board views inputs words.entries
     → first.profiles ≡ replicate (length first.world.cores) nothing → shelf' ≡ shelf
-    → PlaysProfiled words.cycles file first out out' status → SaysProfile words shelf shelf' out out' status
-says_counted words shelf shelf' out out' status board file views inputs first job same began none quiet p =
+    → PlaysProfiled words.cycles file first out out' probes probes' status → SaysProfile words shelf shelf' out out' probes probes' status
+says_counted words shelf shelf' out out' probes probes' status board file views inputs first job same began none quiet p =
     let P : BoardFile → Type 0 = λ b. PrintsProfiled b p.last p.how out out' status in
     let r = ran_counted words.cycles (exact_start board views inputs words.entries) first p.last p.how began none p.ran in
     let run = run_of board views inputs words.entries words.cycles p.last.world p.how (loaded_count shelf.files board.network board.cores views job.has_cores) r.ran in
@@ -82,6 +91,7 @@ says_counted words shelf shelf' out out' status board file views inputs first jo
         ran = record { ran = r.ran; open_last = run.open_last; is_open = run.is_open; is_run = run.is_run };
         network = λ is. jobs_follow.follows shelf.files board views inputs run.open_last
             (record { file = words.file; journal = words.journal; job = job; network = is; first = run.is_run.first; began = run.is_run.began; count = run.is_run.ran.count; ran = run.is_run.ran.cycles });
+        tells = tells_all board views inputs words.entries first.world p.last.world probes probes' began p.tells;
       };
       profiles = are_profiles board views inputs words.entries words.cycles p.last p.how r;
     })
@@ -113,20 +123,20 @@ prints_whole : (words : RunWords) (shelf shelf' : ShelfState) (out out' : SinkSt
 prints_whole words shelf shelf' out out' status board last how fair (printed adds) = ended how
 prints_whole words shelf shelf' out out' status board last how fair (stopped fault adds) = not_printed words shelf shelf' out out' (profile_text board last how) fault fair adds
 
-profiles : (words : RunWords) (shelf shelf' : ShelfState) (out out' : SinkState) (status : Status) → IsFairRun words.file words.journal shelf shelf' out out'
-    → SaysProfile words shelf shelf' out out' status → HasRun status
-profiles words shelf shelf' out out' status fair (refused cause refuses same quiet) =
-    mishap words shelf shelf' out out' cause fair
+profiles : (words : RunWords) (shelf shelf' : ShelfState) (out out' : SinkState) (probes probes' : List Named) (status : Status) → IsFairRun words.file words.journal shelf shelf' out out'
+    → SaysProfile words shelf shelf' out out' probes probes' status → HasRun status
+profiles words shelf shelf' out out' probes probes' status fair (refused cause refuses same quiet kept) =
+    environment_failure words shelf shelf' out out' cause fair
     (not_refused shelf shelf' fair.files words.file words.journal fair.board fair.views fair.inputs cause fair.told fair.job refuses)
-profiles words shelf shelf' out out' status fair (no_memory same quiet) = tt
-profiles words shelf shelf' out out' status fair (ran board last how status' has same prints) = prints_whole words shelf shelf' out out' status' board last how fair prints
+profiles words shelf shelf' out out' probes probes' status fair (no_memory same quiet kept) = tt
+profiles words shelf shelf' out out' probes probes' status fair (ran board last how status' has same prints) = prints_whole words shelf shelf' out out' status' board last how fair prints
 
-pub profiles_whole : (o : Option Command) (file : List ℕ) (cycles entries : ℕ) (shelf shelf' : ShelfState) (out out' : SinkState) (s : Status)
-    → Answers o shelf shelf' out out' s → o ≡ Some (ProfileOf file cycles entries) → IsFairRun file None shelf shelf' out out' → HasRun s
-profiles_whole o file cycles entries shelf shelf' out out' s says is fair =
-    let P : Option Command → Type 0 = λ o. Answers o shelf shelf' out out' s in
+pub profiles_whole : (o : Option Command) (file : List ℕ) (cycles entries : ℕ) (shelf shelf' : ShelfState) (out out' : SinkState) (probes probes' : List Named) (s : Status)
+    → Answers o shelf shelf' out out' probes probes' s → o ≡ Some (ProfileOf file cycles entries) → IsFairRun file None shelf shelf' out out' → HasRun s
+profiles_whole o file cycles entries shelf shelf' out out' probes probes' s says is fair =
+    let P : Option Command → Type 0 = λ o. Answers o shelf shelf' out out' probes probes' s in
     let words : RunWords = record { file = file; cycles = cycles; entries = entries; journal = None } in
-    profiles words shelf shelf' out out' s fair (subst P is says)
+    profiles words shelf shelf' out out' probes probes' s fair (subst P is says)
 
 pub prints_writes : (board : BoardFile) (last : Profiled) (how : RunEnd) (out out' : SinkState) (status : Status) → PrintsProfiled board last how out out' status → CountsWrites out.faults out'.faults status
 prints_writes board last how out out' status (printed adds) = ended_writes how out.faults out'.faults adds.1

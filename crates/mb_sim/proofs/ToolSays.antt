@@ -1,14 +1,15 @@
 -- From the answers of `asm` and `dis` to their statuses.
 use Rattle.std.proofs.Common.{◌≡◌, ℕ, List, Bool, Option, Some, Result, Ok, Err, inl, inr, ap, refl, subst, sym}
 use Rattle.std.specs.Prelude.{⊤}
-use Rattle.command_words.specs.declared.command.Command.{Command}
-use Rattle.command_words.specs.declared.command.Command.TheVariants.{Asm, Dis}
+use Rattle.command_line.specs.declared.command.Command.{Command}
+use Rattle.command_line.specs.declared.command.Command.TheVariants.{Asm, Dis}
 use Rattle.host_io.specs.Outside.{ShelfState, SinkState}
 use Rattle.source_tools.proofs.AsmComplete.{asm_complete}
 use Rattle.source_tools.proofs.DisComplete.{dis_complete}
 use Rattle.source_tools.specs.Complete.{IsDone, IsRefusedBy}
 use Rattle.source_tools.specs.declared.refusal.Refusal.{Refusal}
 use Rattle.source_tools.specs.declared.refusal.Refusal.TheVariants as refusal
+use Rattle.probe_set.specs.Sets.{Named}
 use Rattle.mb_sim.specs.Tools.{SaysAssembled, SaysListed, order_of, status_of_tool}
 use Rattle.mb_sim.specs.Top.{Answers, IsAnswer}
 use Rattle.mb_sim.specs.ToolStatus.{AsmIsExact, DisIsExact}
@@ -46,13 +47,13 @@ dis_exact image old new out out' s h =
       lengths = λ bytes fair long. refused_by (refusal.TooLong image) h.answer (dis_complete.lengths image bytes old new out out' h.answer h.says fair long);
     })
 
-pub assembles : (o : Option Command) (source output : List ℕ) (is_little : Bool) (old new : ShelfState) (out out' : SinkState) (s : Status) → Answers o old new out out' s
+pub assembles : (o : Option Command) (source output : List ℕ) (is_little : Bool) (old new : ShelfState) (out out' : SinkState) (probes probes' : List Named) (s : Status) → Answers o old new out out' probes probes' s
     → o ≡ Some (Asm source output is_little) → AsmIsExact source is_little old new s
-assembles o source output is_little old new out out' s says is =
-    let P : Option Command → Type 0 = λ o. Answers o old new out out' s in
-    asm_exact source output is_little old new out out' s (subst P is says)
+assembles o source output is_little old new out out' probes probes' s says is =
+    let P : Option Command → Type 0 = λ o. Answers o old new out out' probes probes' s in
+    asm_exact source output is_little old new out out' s (subst P is says).0
 
-pub lists : (o : Option Command) (image : List ℕ) (old new : ShelfState) (out out' : SinkState) (s : Status) → Answers o old new out out' s → o ≡ Some (Dis image) → DisIsExact image old new out out' s
-lists o image old new out out' s says is =
-    let P : Option Command → Type 0 = λ o. Answers o old new out out' s in
-    dis_exact image old new out out' s (subst P is says)
+pub lists : (o : Option Command) (image : List ℕ) (old new : ShelfState) (out out' : SinkState) (probes probes' : List Named) (s : Status) → Answers o old new out out' probes probes' s → o ≡ Some (Dis image) → DisIsExact image old new out out' s
+lists o image old new out out' probes probes' s says is =
+    let P : Option Command → Type 0 = λ o. Answers o old new out out' probes probes' s in
+    dis_exact image old new out out' s (subst P is says).0

@@ -1,7 +1,7 @@
 -- What `run` does, and the ways in which it can end.
-use Rattle.std.specs.Prelude.{◌≡◌, ℕ, ⊤, true, List, [], codes, Option, Some, None, Result, Ok, Err, slice_get}
+use Rattle.std.specs.Prelude.{◌≡◌, ℕ, ⊤, true, List, codes, drop, length, Option, Some, None, Result, Ok, Err, slice_get}
 use Rattle.net_law.specs.Law.{FollowsNetwork}
-use Rattle.isa_step.specs.Deeds.{View}
+use Rattle.isa_step.specs.Effects.{View}
 use Rattle.host_io.specs.Outside.{Adds, Files, ShelfState, SinkState}
 use Rattle.host_io.specs.declared.faults.StoreFault.{StoreFault}
 use Rattle.host_io.specs.declared.faults.StoreFault.TheVariants as store
@@ -16,6 +16,7 @@ use Rattle.exact_machine.specs.Machine.{ExactCore, ExactWorld}
 use Rattle.exact_machine.specs.Runs.{ExactRun}
 use Rattle.board_run.specs.Boards.{exact_idle}
 use Rattle.board_run.specs.Runs.{IsRunOf}
+use Rattle.probe_set.specs.Sets.{Named, all_told_each}
 use Rattle.run_output.specs.Outputs.{Tells, WroteAll, WroteOutputs, outputs_of}
 use Rattle.run_output.specs.Report.{report_text}
 use Rattle.run_output.specs.declared.outputs.OutputFault.{OutputFault}
@@ -24,16 +25,18 @@ use Rattle.run_output.specs.declared.report.CoreEnd.{CoreEnd}
 use Rattle.mb_sim.specs.declared.run.RunWords.{RunWords}
 use Rattle.mb_sim.specs.declared.status.Status.{Status}
 use Rattle.mb_sim.specs.declared.status.Status.TheVariants.{Usage, ReadFault, BadBoard, BadImage, WriteFault, NoMemory, BadInput, TooLong}
+use Rattle.mb_sim.specs.Probes.{TellsProbes}
 use Rattle.mb_sim.specs.Runs.{code_of, status_of}
 
 -- the board of the file, with its images and inputs, ran with this limit and so much room, and ended so
-pub record HasRun (words : RunWords) (files : Option Files) (board : BoardFile) (last : ExactWorld) (how : RunEnd) : Type 0 where
+pub record HasRun (words : RunWords) (files : Option Files) (probes probes' : List Named) (board : BoardFile) (last : ExactWorld) (how : RunEnd) : Type 0 where
   pub views : List View
   pub inputs : Inputs
   pub job : IsJobOf files words.file words.journal board views inputs
   pub ran : IsRunOf board views inputs words.entries words.cycles last how
   -- on a network board each link's file is a prefix of what the reference network sends to it, and at rest all of that
   pub network : board.network ≡ true → FollowsNetwork board views inputs ran.open_last
+  pub tells : TellsProbes last probes probes'
 
 -- how a core stands at the end
 abbrev pub core_end : ExactWorld → ℕ → Option ExactCore → CoreEnd
@@ -94,25 +97,26 @@ pub data PutsOut (journal : Option (List ℕ)) (board : BoardFile) (last : Exact
   report_stops : (fault : StoreFault) → WroteOutputs shelf shelf' (outputs_of board last.fabric.journal journal) (Ok tt) → Adds out out' (report_of board last how) (Err fault)
       → PutsOut journal board last how shelf shelf' out out' (status_of_sink fault)
 
--- a board runs up to its end, and what it gives is put out
-pub record Plays (words : RunWords) (board : BoardFile) (first : ExactWorld) (shelf shelf' : ShelfState) (out out' : SinkState) (status : Status) : Type 0 where
+-- a board runs up to its end, the probes are told the entries that come, and what the run gives is put out
+pub record Plays (words : RunWords) (board : BoardFile) (first : ExactWorld) (shelf shelf' : ShelfState) (out out' : SinkState) (probes probes' : List Named) (status : Status) : Type 0 where
   pub last : ExactWorld
   pub how : RunEnd
   pub ran : ExactRun words.cycles first last how
+  pub tells : probes' ≡ all_told_each (drop (length first.fabric.journal) last.fabric.journal) probes
   pub puts : PutsOut words.journal board last how shelf shelf' out out' status
 
 -- the ways in which the run of a board ends, by its status: the board is refused by its first cause; there is no memory for
--- the run; all is written; a file is refused; or the report is
-pub data Says (words : RunWords) (shelf shelf' : ShelfState) (out out' : SinkState) : Status → Type 0 where
-  refused : (cause : Refusal) → Refuses shelf shelf' words.file words.journal cause → shelf'.files ≡ shelf.files → out' ≡ out
-      → Says words shelf shelf' out out' (status_of_refusal cause)
-  no_memory : shelf' ≡ shelf → out' ≡ out → Says words shelf shelf' out out' NoMemory
-  all_written : (board : BoardFile) (last : ExactWorld) (how : RunEnd) → HasRun words shelf.files board last how
+-- the run; all is written; a file is refused; or the report is. Where there was a run, `HasRun` says what the probes were told
+pub data Says (words : RunWords) (shelf shelf' : ShelfState) (out out' : SinkState) (probes probes' : List Named) : Status → Type 0 where
+  refused : (cause : Refusal) → Refuses shelf shelf' words.file words.journal cause → shelf'.files ≡ shelf.files → out' ≡ out → probes' ≡ probes
+      → Says words shelf shelf' out out' probes probes' (status_of_refusal cause)
+  no_memory : shelf' ≡ shelf → out' ≡ out → probes' ≡ probes → Says words shelf shelf' out out' probes probes' NoMemory
+  all_written : (board : BoardFile) (last : ExactWorld) (how : RunEnd) → HasRun words shelf.files probes probes' board last how
       → Puts words board last shelf shelf' (Ok tt) → Adds out out' (report_of board last how) (Ok tt)
-      → Says words shelf shelf' out out' (status_of how)
-  file_refused : (board : BoardFile) (last : ExactWorld) (how : RunEnd) (fault : OutputFault) → HasRun words shelf.files board last how
+      → Says words shelf shelf' out out' probes probes' (status_of how)
+  file_refused : (board : BoardFile) (last : ExactWorld) (how : RunEnd) (fault : OutputFault) → HasRun words shelf.files probes probes' board last how
       → Puts words board last shelf shelf' (Err (store_of fault)) → Names shelf' fault → out' ≡ out
-      → Says words shelf shelf' out out' (status_of_output fault)
-  report_refused : (board : BoardFile) (last : ExactWorld) (how : RunEnd) (fault : StoreFault) → HasRun words shelf.files board last how
+      → Says words shelf shelf' out out' probes probes' (status_of_output fault)
+  report_refused : (board : BoardFile) (last : ExactWorld) (how : RunEnd) (fault : StoreFault) → HasRun words shelf.files probes probes' board last how
       → Puts words board last shelf shelf' (Ok tt) → Adds out out' (report_of board last how) (Err fault)
-      → Says words shelf shelf' out out' (status_of_sink fault)
+      → Says words shelf shelf' out out' probes probes' (status_of_sink fault)

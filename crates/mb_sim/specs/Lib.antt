@@ -5,6 +5,7 @@ pub mod Board
 pub mod Demo
 pub mod Top
 pub mod Profiled
+pub mod Debugged
 pub mod Program
 pub mod ToolStatus
 pub mod Tools

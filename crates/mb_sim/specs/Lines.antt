@@ -3,7 +3,7 @@ use Rattle.std.specs.Prelude.{ℕ, if◌then◌else◌, List, [], ◌++◌, code
 use Rattle.axi_link.specs.declared.item.Item.{Item}
 use Rattle.host_io.specs.Digits.{hex_of}
 use Rattle.mb_sim.specs.declared.status.Status.{Status}
-use Rattle.mb_sim.specs.declared.status.Status.TheVariants.{Ended, Waiting, Stopped, CyclesSpent, JournalFull, Usage, ReadFault, WriteFault, NoMemory, TooLong, BadBoard, BadImage, BadInput, BadSource}
+use Rattle.mb_sim.specs.declared.status.Status.TheVariants.{Ended, Waiting, Stopped, CyclesSpent, JournalFull, Usage, ReadFault, WriteFault, NoMemory, TooLong, BadBoard, BadImage, BadInput, BadScript, BadSource}
 
 -- the control bit as a digit
 abbrev pub control_of : Item → List ℕ
@@ -31,5 +31,6 @@ told (BadBoard code place) = codes "mbsim: board " ++ decimal code ++ codes " at
 told (BadImage core code at) = codes "mbsim: image of " ++ core ++ codes " " ++ decimal code ++ codes " at " ++ decimal at ++ codes "\n"
 told NoMemory = line_with (codes "no memory") [] []
 told (BadSource code line column) = codes "mbsim: source " ++ decimal code ++ codes " at " ++ decimal line ++ codes ":" ++ decimal column ++ codes "\n"
+told (BadScript code line) = codes "mbsim: script " ++ decimal code ++ codes " at line " ++ decimal line ++ codes "\n"
 told (BadInput file offset) = codes "mbsim: input " ++ file ++ codes " at " ++ decimal offset ++ codes "\n"
 told (TooLong file) = line_with [] file (codes " is too long")

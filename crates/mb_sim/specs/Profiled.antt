@@ -1,5 +1,5 @@
 -- What `profile` does, and the ways in which it can end.
-use Rattle.std.specs.Prelude.{◌≡◌, ℕ, List, [], ◌++◌, flat_map, Option, Some, None, Ok, Err, slice_get}
+use Rattle.std.specs.Prelude.{◌≡◌, ℕ, List, ◌++◌, drop, flat_map, length, Option, Some, None, Ok, Err, slice_get}
 use Rattle.std.specs.List.{enumerate_from}
 use Rattle.host_io.specs.Outside.{Adds, Files, ShelfState, SinkState}
 use Rattle.host_io.specs.declared.faults.StoreFault.{StoreFault}
@@ -13,6 +13,7 @@ use Rattle.board_profile.specs.Profiles.{Profiled, ProfiledRun}
 use Rattle.exact_machine.specs.Machine.{ExactCore, ExactWorld}
 use Rattle.exact_machine.specs.Profile.{Profile, nothing, profile_steps, total}
 use Rattle.exact_machine.specs.Runs.{exact_events, exact_start}
+use Rattle.probe_set.specs.Sets.{Named, all_told_each}
 use Rattle.mb_sim.specs.Board.{HasRun, report_of, status_of_refusal, status_of_sink}
 use Rattle.mb_sim.specs.Runs.{status_of}
 use Rattle.mb_sim.specs.declared.run.RunWords.{RunWords}
@@ -43,8 +44,8 @@ AreProfiles start count last =
     × (total (profile_steps start core (exact_events start count) nothing) ≡ s.ticks)
 
 -- the board of the file ran, as `run` runs it, and its ticks were counted
-pub record HasProfiled (words : RunWords) (files : Option Files) (board : BoardFile) (last : Profiled) (how : RunEnd) : Type 0 where
-  pub run : HasRun words files board last.world how
+pub record HasProfiled (words : RunWords) (files : Option Files) (probes probes' : List Named) (board : BoardFile) (last : Profiled) (how : RunEnd) : Type 0 where
+  pub run : HasRun words files probes probes' board last.world how
   pub profiles : AreProfiles (exact_start board run.views run.inputs words.entries) run.ran.ran.count last
 
 -- the report and the profiles are printed, or refused
@@ -52,18 +53,19 @@ pub data PrintsProfiled (board : BoardFile) (last : Profiled) (how : RunEnd) (ou
   printed : Adds out out' (profile_text board last how) (Ok tt) → PrintsProfiled board last how out out' (status_of how)
   stopped : (fault : StoreFault) → Adds out out' (profile_text board last how) (Err fault) → PrintsProfiled board last how out out' (status_of_sink fault)
 
--- a board runs up to its end, and what it gives is printed
-pub record PlaysProfiled (cycles : ℕ) (board : BoardFile) (first : Profiled) (out out' : SinkState) (status : Status) : Type 0 where
+-- a board runs up to its end, the probes are told the entries that come, and what the run gives is printed
+pub record PlaysProfiled (cycles : ℕ) (board : BoardFile) (first : Profiled) (out out' : SinkState) (probes probes' : List Named) (status : Status) : Type 0 where
   pub last : Profiled
   pub how : RunEnd
   pub ran : ProfiledRun cycles first last how
+  pub tells : probes' ≡ all_told_each (drop (length first.world.fabric.journal) last.world.fabric.journal) probes
   pub prints : PrintsProfiled board last how out out' status
 
 -- the ways in which `profile` ends, by its status: the board is refused by its first cause; there is no memory for the run; or
 -- it ran, and all is printed or refused. No file changes
-pub data SaysProfile (words : RunWords) (shelf shelf' : ShelfState) (out out' : SinkState) : Status → Type 0 where
-  refused : (cause : Refusal) → Refuses shelf shelf' words.file words.journal cause → shelf'.files ≡ shelf.files → out' ≡ out
-      → SaysProfile words shelf shelf' out out' (status_of_refusal cause)
-  no_memory : shelf' ≡ shelf → out' ≡ out → SaysProfile words shelf shelf' out out' NoMemory
-  ran : (board : BoardFile) (last : Profiled) (how : RunEnd) (status : Status) → HasProfiled words shelf.files board last how → shelf' ≡ shelf
-      → PrintsProfiled board last how out out' status → SaysProfile words shelf shelf' out out' status
+pub data SaysProfile (words : RunWords) (shelf shelf' : ShelfState) (out out' : SinkState) (probes probes' : List Named) : Status → Type 0 where
+  refused : (cause : Refusal) → Refuses shelf shelf' words.file words.journal cause → shelf'.files ≡ shelf.files → out' ≡ out → probes' ≡ probes
+      → SaysProfile words shelf shelf' out out' probes probes' (status_of_refusal cause)
+  no_memory : shelf' ≡ shelf → out' ≡ out → probes' ≡ probes → SaysProfile words shelf shelf' out out' probes probes' NoMemory
+  ran : (board : BoardFile) (last : Profiled) (how : RunEnd) (status : Status) → HasProfiled words shelf.files probes probes' board last how → shelf' ≡ shelf
+      → PrintsProfiled board last how out out' status → SaysProfile words shelf shelf' out out' probes probes' status

@@ -20,6 +20,7 @@ code_of (status.WriteFault file) = 8
 code_of status.NoMemory = 9
 code_of status.JournalFull = 10
 code_of (status.BadSource code line column) = 11
+code_of (status.BadScript code line) = 12
 code_of (status.BadInput file offset) = 13
 code_of (status.TooLong file) = 15
 

@@ -1,4 +1,8 @@
 //! Worked boards, from their files in memory to what is written and printed.
+ghost use Rattle.std.specs.Prelude.{map};
+ghost use Rattle.mb_sim.specs.Probes.{AreYoung};
+ghost use Rattle.probe_set.specs.Sets.{items_of, named};
+
 use crate::tests::{assembled, plan};
 use crate::top::mbsim;
 use host_io::{FileName, MemFile, MemShelf, MemSink, MemSource};
@@ -20,6 +24,8 @@ pub(crate) struct Row<'a> {
     pub(crate) images: [&'a str; 2],
     /// The bytes of the file `in`.
     pub(crate) input: &'a [u8],
+    /// What the script has.
+    pub(crate) script: &'a str,
     /// The call of the shelf that is to fail, and the bytes that it moves before.
     pub(crate) shelf_fault: Option<(u64, usize)>,
     /// The same of the standard output.
@@ -100,6 +106,7 @@ impl<'a> Row<'a> {
             parts: RELAY,
             images: RELAY_IMAGES,
             input,
+            script: "",
             shelf_fault: None,
             output_fault: None,
             code: 0,
@@ -166,8 +173,23 @@ fn files(alloc: Global, row: &Row<'_>) -> Result<Vec<MemFile>, Fail> {
 
 /// Makes the run of a row, and compares what it gave.
 pub(crate) fn check(rt: &impl Abort, alloc: Global, row: &Row<'_>) -> Result<(), Fail> {
+    check_with(rt, alloc, row, &mut ProbeSet::new())
+}
+
+/// The same with these probes.
+pub(crate) fn check_with(
+    rt: &impl Abort,
+    alloc: Global,
+    row: &Row<'_>,
+    probes: &mut ProbeSet,
+) -> Result<(), Fail>
+    requires { AreYoung (map (λ a. named a.name (state_of (a.probe.vtable, a.probe.value))) (items_of probes.old.probes)) }
+{
     let mut shelf = MemShelf::new(files(alloc, row)?, plan(alloc, row.shelf_fault)?);
-    let mut script = MemSource::new(Vec::new(alloc), Vec::new(alloc));
+    let mut script = MemSource::new(
+        Vec::from_slice(alloc, row.script.as_bytes())?,
+        Vec::new(alloc),
+    );
     let mut out = MemSink::new(Vec::new(alloc), plan(alloc, row.output_fault)?);
     let mut err = MemSink::new(Vec::new(alloc), Vec::new(alloc));
     let status = mbsim(
@@ -177,7 +199,7 @@ pub(crate) fn check(rt: &impl Abort, alloc: Global, row: &Row<'_>) -> Result<(),
         &mut script,
         &mut out,
         &mut err,
-        &mut ProbeSet::new(),
+        probes,
     );
     assert_eq!(rt; err.written(), row.told.as_bytes());
     assert_eq!(rt; status.code(), row.code, "{:?}", row.words);

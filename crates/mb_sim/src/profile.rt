@@ -14,7 +14,7 @@ ghost use Rattle.mb_sim.specs.Probes.{AreYoung};
 ghost use Rattle.probe_set.specs.Sets.{HaveRoom, items_of, named};
 
 use crate::raw::output;
-use crate::run::{BoardEnds, Ready, RunWords, make_ready, status_of_refusal};
+use crate::run::{BoardEnds, Ready, RunWords, prepare, status_of_refusal};
 use crate::runs::status_of;
 use crate::status::Status;
 use any_core::AnyCore;
@@ -44,7 +44,9 @@ pub fn profile<S: Shelf, O: Sink>(
 ) -> Status
     requires young { AreYoung (map (λ a. named a.name (state_of (a.probe.vtable, a.probe.value))) (items_of probes.old.probes)) }
     requires few { words.now.cycles ≤ 1_000_000_000_000 }
-    ensures says { SaysProfile words.now (S.state shelf.old) (S.state shelf.new) (O.state out.old) (O.state out.new) result }
+    ensures says { SaysProfile words.now (S.state shelf.old) (S.state shelf.new) (O.state out.old) (O.state out.new)
+        (map (λ a. named a.name (state_of (a.probe.vtable, a.probe.value))) (items_of probes.old.probes))
+        (map (λ a. named a.name (state_of (a.probe.vtable, a.probe.value))) (items_of probes.new.probes)) result }
     ensures loads { CountsLoads (S.state shelf.old).faults.load_faults (S.state shelf.new).faults.load_faults result }
     ensures writes { CountsWrites (O.state out.old).faults (O.state out.new).faults result }
     ensures shelf_writes { CountsWrites (S.state shelf.old).faults.write_faults (S.state shelf.new).faults.write_faults result }
@@ -68,7 +70,7 @@ fn make_counting(alloc: Global, job: Job, entries: u32) -> Option<ReadyToCount>
     ensures start { IfSome result (λ r. r.board.world ≡ exact_start job.board (map (λ core. (any_state core).view) job.cores.items) (record { links = job.inputs.links; uarts = job.inputs.uarts }) entries) }
     ensures none { IfSome result (λ r. r.board.profiles ≡ replicate (length r.board.world.cores) nothing) }
 {
-    let Ready { board, outputs } = make_ready(alloc, job, entries)?;
+    let Ready { board, outputs } = prepare(alloc, job, entries)?;
     let board = ProfiledBoard::new(alloc, board).ok()?;
     Some(ReadyToCount { board, outputs })
 }
@@ -84,7 +86,9 @@ fn count<O: Sink>(
     requires room { HaveRoom ready.board.world.fabric.spare (map (λ a. named a.name (state_of (a.probe.vtable, a.probe.value))) (items_of probes.old.probes)) }
     requires can { CanRun cycles ready.board.world }
     requires count { length ready.board.world.cores ≡ length ready.outputs.cores }
-    ensures plays { PlaysProfiled cycles ready.outputs ready.board (O.state out.old) (O.state out.new) result }
+    ensures plays { PlaysProfiled cycles ready.outputs ready.board (O.state out.old) (O.state out.new)
+        (map (λ a. named a.name (state_of (a.probe.vtable, a.probe.value))) (items_of probes.old.probes))
+        (map (λ a. named a.name (state_of (a.probe.vtable, a.probe.value))) (items_of probes.new.probes)) result }
 {
     let mut ready = ready;
     let end = ready.board.run(cycles, probes);

@@ -1,9 +1,9 @@
 //! `raw`: a flat image on a board of one plain core, whose port 0 leads to the output.
-ghost use Rattle.std.specs.Prelude.{◌≡◌, ◌≤◌, ◌∷◌, [], IfErr, IfOk, IfSome, OnOk, codes, length, map};
+ghost use Rattle.std.specs.Prelude.{◌≡◌, ◌≤◌, ◌∷◌, [], IfErr, IfNone, IfOk, IfSome, OnErr, OnOk, codes, length, map};
 ghost use Rattle.board_run.specs.Runs.{IsRunOf};
 ghost use Rattle.mb_sim.specs.Raw.{memory_of, no_inputs, raw_board, raw_core, raw_link, raw_start, raw_view};
 ghost use Rattle.mb_sim.specs.Top.{CountsLoads, CountsWrites, HasRunTo, Refuses, Says};
-ghost use Rattle.mb_sim.specs.Probes.{AreYoung};
+ghost use Rattle.mb_sim.specs.Probes.{AreYoung, TellsProbes};
 ghost use Rattle.probe_set.specs.Sets.{items_of, named};
 
 use crate::print::print_items;
@@ -45,7 +45,9 @@ pub fn raw<S: Shelf, O: Sink>(
 ) -> Status
     requires young { AreYoung (map (λ a. named a.name (state_of (a.probe.vtable, a.probe.value))) (items_of probes.old.probes)) }
     requires few { cycles ≤ 1_000_000_000_000 }
-    ensures says { Says (record { file = file.now; cycles = cycles }) (S.state shelf.old) (S.state shelf.new) (O.state out.old) (O.state out.new) result }
+    ensures says { Says (record { file = file.now; cycles = cycles }) (S.state shelf.old) (S.state shelf.new) (O.state out.old) (O.state out.new)
+        (map (λ a. named a.name (state_of (a.probe.vtable, a.probe.value))) (items_of probes.old.probes))
+        (map (λ a. named a.name (state_of (a.probe.vtable, a.probe.value))) (items_of probes.new.probes)) result }
     ensures loads { CountsLoads (S.state shelf.old).faults.load_faults (S.state shelf.new).faults.load_faults result }
     ensures writes { CountsWrites (O.state out.old).faults (O.state out.new).faults result }
     ensures files { (S.state shelf.new).files ≡ (S.state shelf.old).files }
@@ -72,8 +74,12 @@ fn run_file<S: Shelf>(
 ) -> Result<Ran, Status>
     requires young { AreYoung (map (λ a. named a.name (state_of (a.probe.vtable, a.probe.value))) (items_of probes.old.probes)) }
     requires few { cycles ≤ 1_000_000_000_000 }
-    ensures ok { IfOk result (λ ran. HasRunTo (record { file = file.now; cycles = cycles }) (S.state shelf.old) ran.end ran.board) }
+    ensures ok { IfOk result (λ ran. HasRunTo (record { file = file.now; cycles = cycles }) (S.state shelf.old)
+        (map (λ a. named a.name (state_of (a.probe.vtable, a.probe.value))) (items_of probes.old.probes))
+        (map (λ a. named a.name (state_of (a.probe.vtable, a.probe.value))) (items_of probes.new.probes)) ran.end ran.board) }
     ensures refused { IfErr result (λ status. Refuses (record { file = file.now; cycles = cycles }) (S.state shelf.old) (S.state shelf.new) status) }
+    ensures untold { OnErr result (map (λ a. named a.name (state_of (a.probe.vtable, a.probe.value))) (items_of probes.new.probes)
+        ≡ map (λ a. named a.name (state_of (a.probe.vtable, a.probe.value))) (items_of probes.old.probes)) }
     ensures loads { OnOk result ((S.state shelf.new).faults ≡ (S.state shelf.old).faults) }
     ensures failed { IfErr result (λ status.
         CountsLoads (S.state shelf.old).faults.load_faults (S.state shelf.new).faults.load_faults status) }
@@ -107,7 +113,12 @@ fn run_image(
     requires young { AreYoung (map (λ a. named a.name (state_of (a.probe.vtable, a.probe.value))) (items_of probes.old.probes)) }
     requires fits { length image.now ≤ 65_536 }
     requires few { cycles ≤ 1_000_000_000_000 }
-    ensures { IfSome result (λ ran. IsRunOf (raw_board file.now) (raw_view image.now ∷ []) no_inputs 1_048_576 cycles ran.board ran.end) }
+    ensures ran { IfSome result (λ ran. IsRunOf (raw_board file.now) (raw_view image.now ∷ []) no_inputs 1_048_576 cycles ran.board ran.end) }
+    ensures tells { IfSome result (λ ran. TellsProbes ran.board
+        (map (λ a. named a.name (state_of (a.probe.vtable, a.probe.value))) (items_of probes.old.probes))
+        (map (λ a. named a.name (state_of (a.probe.vtable, a.probe.value))) (items_of probes.new.probes))) }
+    ensures untold { IfNone result (map (λ a. named a.name (state_of (a.probe.vtable, a.probe.value))) (items_of probes.new.probes)
+        ≡ map (λ a. named a.name (state_of (a.probe.vtable, a.probe.value))) (items_of probes.old.probes)) }
 {
     let mut board = board_with(alloc, file, image)?;
     let end = board.run(cycles, probes);

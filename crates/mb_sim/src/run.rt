@@ -79,7 +79,9 @@ pub fn run<S: Shelf, O: Sink>(
 ) -> Status
     requires young { AreYoung (map (λ a. named a.name (state_of (a.probe.vtable, a.probe.value))) (items_of probes.old.probes)) }
     requires few { words.now.cycles ≤ 1_000_000_000_000 }
-    ensures says { Says words.now (S.state shelf.old) (S.state shelf.new) (O.state out.old) (O.state out.new) result }
+    ensures says { Says words.now (S.state shelf.old) (S.state shelf.new) (O.state out.old) (O.state out.new)
+        (map (λ a. named a.name (state_of (a.probe.vtable, a.probe.value))) (items_of probes.old.probes))
+        (map (λ a. named a.name (state_of (a.probe.vtable, a.probe.value))) (items_of probes.new.probes)) result }
     ensures loads { CountsLoads (S.state shelf.old).faults.load_faults (S.state shelf.new).faults.load_faults result }
     ensures writes { CountsWrites (O.state out.old).faults (O.state out.new).faults result }
     ensures shelf_writes { CountsWrites (S.state shelf.old).faults.write_faults (S.state shelf.new).faults.write_faults result }
@@ -88,7 +90,7 @@ pub fn run<S: Shelf, O: Sink>(
         Ok(job) => job,
         Err(refusal) => return status_of_refusal(refusal),
     };
-    match make_ready(alloc, job, words.entries) {
+    match prepare(alloc, job, words.entries) {
         Some(ready) => play(alloc, ready, words, shelf, out, probes),
         None => Status::NoMemory,
     }
@@ -110,7 +112,7 @@ pub(crate) fn status_of_refusal(refusal: Refusal) -> Status
 }
 
 /// Takes all the memory that the run needs; `None` for want of it.
-pub(crate) fn make_ready(alloc: Global, job: Job, entries: u32) -> Option<Ready>
+pub(crate) fn prepare(alloc: Global, job: Job, entries: u32) -> Option<Ready>
     requires new { AreNew job.board.cores (map any_state job.cores.items) }
     requires buildable { IsBuildable job.board }
     ensures file { IfSome result (λ r. r.outputs ≡ job.board) }
@@ -139,15 +141,17 @@ fn play<S: Shelf, O: Sink>(
     requires room { HaveRoom ready.board.fabric.spare (map (λ a. named a.name (state_of (a.probe.vtable, a.probe.value))) (items_of probes.old.probes)) }
     requires can { CanRun words.now.cycles ready.board }
     requires count { length ready.board.cores ≡ length ready.outputs.cores }
-    ensures plays { Plays words.now ready.outputs ready.board (S.state shelf.old) (S.state shelf.new) (O.state out.old) (O.state out.new) result }
+    ensures plays { Plays words.now ready.outputs ready.board (S.state shelf.old) (S.state shelf.new) (O.state out.old) (O.state out.new)
+        (map (λ a. named a.name (state_of (a.probe.vtable, a.probe.value))) (items_of probes.old.probes))
+        (map (λ a. named a.name (state_of (a.probe.vtable, a.probe.value))) (items_of probes.new.probes)) result }
 {
     let mut ready = ready;
     let end = ready.board.run(words.cycles, probes);
-    put_out(alloc, &mut ready, end, &words.journal, shelf, out)
+    write_results(alloc, &mut ready, end, &words.journal, shelf, out)
 }
 
 /// Writes the files of a run that ended so, and then its report.
-fn put_out<S: Shelf, O: Sink>(
+fn write_results<S: Shelf, O: Sink>(
     alloc: Global,
     ready: &mut Ready,
     end: RunEnd,

@@ -31,6 +31,8 @@ pub enum Status {
     NoMemory,
     /// A source has a fault, the first of which is at this line and column, counted from 1: its code, 1101 to 1112.
     BadSource { code: u16, line: u32, column: u32 },
+    /// A script has a fault: its code, 1201 to 1206, the least of the first line that has one, counted from 1.
+    BadScript { code: u16, line: u32 },
     /// An input file isn't whole items with control 0 or 1: the offset of the first such item.
     BadInput { file: FileName, offset: u32 },
     /// The file is longer than its limit.
@@ -55,6 +57,7 @@ impl Status {
             Status::NoMemory => 9,
             Status::JournalFull => 10,
             Status::BadSource { .. } => 11,
+            Status::BadScript { .. } => 12,
             Status::BadInput { .. } => 13,
             Status::TooLong { .. } => 15,
         }

@@ -35,6 +35,7 @@ fn message_line(status: &Status) -> LongText
         Status::BadImage { core, code, at } => image_line(core, *code, *at),
         Status::NoMemory => line_with(b"no memory", b"", b""),
         Status::BadSource { code, line, column } => source_line(*code, *line, *column),
+        Status::BadScript { code, line } => script_line(*code, *line),
         Status::BadInput { file, offset } => input_line(file, *offset),
         Status::TooLong { file } => line_with(b"", file.as_bytes(), b" is too long"),
     }
@@ -95,6 +96,19 @@ fn source_line(code: u16, row: u32, column: u32) -> LongText
     line.push(Buffer::new().format(row as u64).as_bytes());
     line.push(b":");
     line.push(Buffer::new().format(column as u64).as_bytes());
+    line.push(b"\n");
+    line
+}
+
+/// The line of a fault of a script.
+fn script_line(code: u16, row: u32) -> LongText
+    ensures { result ≡ told (Status.BadScript code row) }
+{
+    let mut line = LongText::new();
+    line.push(b"mbsim: script ");
+    line.push(Buffer::new().format(code as u64).as_bytes());
+    line.push(b" at line ");
+    line.push(Buffer::new().format(row as u64).as_bytes());
     line.push(b"\n");
     line
 }

@@ -7,7 +7,7 @@ use Rattle.std.proofs.lemmas.List.Quantifiers.{position-Some}
 use Rattle.axi_link.specs.declared.item.Item.{Item}
 use Rattle.isa_step.specs.declared.acts.Action.{Action}
 use Rattle.isa_step.specs.declared.acts.Action.TheVariants.{Got, Sent, Seen, Room, Missed, Read, ReadRefused, Wrote, WriteRefused, Took}
-use Rattle.isa_step.specs.Deeds.{Deed, Due, Does, Waits, Sleeps, Ends, Stops, after}
+use Rattle.isa_step.specs.Effects.{Effect, Due, Does, Waits, Sleeps, Ends, Stops, after}
 use Rattle.isa_step.specs.Due.{due}
 use Rattle.board_file.specs.declared.board.LinkRow.{LinkRow}
 use Rattle.board_file.specs.declared.board.End.{End}
@@ -151,32 +151,32 @@ roomier_at b core n t port None s e h = cc
 roomier_at b core n t port (Some l) s e h = s.room l (writer_of b.rows core port l e) h
 
 -- what a core does in a net, and in one in which what it sees stays
-process_stays : (b : Plan) (core : ℕ) (n t : Net) (p : Process) (deed : Deed) → p.view.arch.network ≡ true → Stays b (Core core) n t → due p.view (ports_of b.rows (map channel_of n.pipes) core) ≡ Does deed → due p.view (ports_of b.rows (map channel_of t.pipes) core) ≡ Does deed
-process_stays b core n t p deed h s e =
+process_stays : (b : Plan) (core : ℕ) (n t : Net) (p : Process) (effect : Effect) → p.view.arch.network ≡ true → Stays b (Core core) n t → due p.view (ports_of b.rows (map channel_of n.pipes) core) ≡ Does effect → due p.view (ports_of b.rows (map channel_of t.pipes) core) ≡ Does effect
+process_stays b core n t p effect h s e =
     (is_process p.view
     (λ port. first_in (channel_at (map channel_of n.pipes) (link_to b.rows core port))) (λ port. first_in (channel_at (map channel_of t.pipes) (link_to b.rows core port)))
     (λ port. room_in (channel_at (map channel_of n.pipes) (link_from b.rows core port))) (λ port. room_in (channel_at (map channel_of t.pipes) (link_from b.rows core port)))
-    deed h (λ port x. more_at b core n t port x (link_to b.rows core port) s refl) (λ port. roomier_at b core n t port (link_from b.rows core port) s refl) e).again
+    effect h (λ port x. more_at b core n t port x (link_to b.rows core port) s refl) (λ port. roomier_at b core n t port (link_from b.rows core port) s refl) e).again
 
-mark_stays : (b : Plan) (core : ℕ) (n : Net) (p : Process) (deed : Deed) → p.view.arch.network ≡ true → due p.view (ports_of b.rows (map channel_of n.pipes) core) ≡ Does deed → deed.arch.network ≡ true
-mark_stays b core n p deed h e =
+mark_stays : (b : Plan) (core : ℕ) (n : Net) (p : Process) (effect : Effect) → p.view.arch.network ≡ true → due p.view (ports_of b.rows (map channel_of n.pipes) core) ≡ Does effect → effect.arch.network ≡ true
+mark_stays b core n p effect h e =
     let f = λ (port : ℕ). first_in (channel_at (map channel_of n.pipes) (link_to b.rows core port)) in
     let r = λ (port : ℕ). room_in (channel_at (map channel_of n.pipes) (link_from b.rows core port)) in
-    (is_process p.view f f r r deed h (λ port x q. q) (λ port q. q) e).mark_stays ∙ h
+    (is_process p.view f f r r effect h (λ port x q. q) (λ port q. q) e).mark_stays ∙ h
 
-pub does_is : (b : Plan) (core : ℕ) (n : Net) (p : Process) (deed : Deed) → does b core n p (Does deed) ≡ Some (moved n (Some (core, record { view = after p.view deed; acts = p.acts + 1 })) (flow_of b.rows core deed.action))
-does_is b core n p deed = ap (λ (pipes : List Pipe). let x : Net = record { processes = slice_set n.processes core (record { view = after p.view deed; acts = p.acts + 1 }); pipes = pipes } in Some x) (pipes_is b.rows core deed.action n.pipes)
+pub does_is : (b : Plan) (core : ℕ) (n : Net) (p : Process) (effect : Effect) → does b core n p (Does effect) ≡ Some (moved n (Some (core, record { view = after p.view effect; acts = p.acts + 1 })) (flow_of b.rows core effect.action))
+does_is b core n p effect = ap (λ (pipes : List Pipe). let x : Net = record { processes = slice_set n.processes core (record { view = after p.view effect; acts = p.acts + 1 }); pipes = pipes } in Some x) (pipes_is b.rows core effect.action n.pipes)
 
 does_acted : (b : Plan) (core : ℕ) (n k : Net) (p : Process) (d : Due) → slice_get n.processes core ≡ Some p → p.view.arch.network ≡ true → due p.view (ports_of b.rows (map channel_of n.pipes) core) ≡ d → does b core n p d ≡ Some k → Acted b n (Core core) k
-does_acted b core n k p (Does deed) at h e q = record {
-  moves = Some (core, record { view = after p.view deed; acts = p.acts + 1 });
-  flow = flow_of b.rows core deed.action;
-  is = sym (same_Some _ _ (sym (does_is b core n p deed) ∙ q));
+does_acted b core n k p (Does effect) at h e q = record {
+  moves = Some (core, record { view = after p.view effect; acts = p.acts + 1 });
+  flow = flow_of b.rows core effect.action;
+  is = sym (same_Some _ _ (sym (does_is b core n p effect) ∙ q));
   mover = refl;
-  carrier = flow_by b.rows core deed.action;
-  mark = λ m z. subst (λ (m : ℕ × Process). m.1.view.arch.network ≡ true) (same_Some _ _ z) (mark_stays b core n p deed h e);
+  carrier = flow_by b.rows core effect.action;
+  mark = λ m z. subst (λ (m : ℕ × Process). m.1.view.arch.network ≡ true) (same_Some _ _ z) (mark_stays b core n p effect h e);
   there = λ m z. subst (λ (m : ℕ × Process). (p : Process) × (slice_get n.processes m.0 ≡ Some p)) (same_Some _ _ z) (p, at);
-  again = λ t s. ap (core_acts b core t) (s.process core refl ∙ at) ∙ ap (does b core t p) (process_stays b core n t p deed h s e) ∙ does_is b core t p deed;
+  again = λ t s. ap (core_acts b core t) (s.process core refl ∙ at) ∙ ap (does b core t p) (process_stays b core n t p effect h s e) ∙ does_is b core t p effect;
 }
 does_acted b core n k p (Waits port full) at h e q = cc
 does_acted b core n k p Sleeps at h e q = cc

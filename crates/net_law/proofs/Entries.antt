@@ -7,7 +7,7 @@ use Rattle.isa_step.specs.declared.acts.Act.{Act}
 use Rattle.isa_step.specs.declared.acts.Act.TheVariants as kind
 use Rattle.isa_step.specs.declared.acts.Action.{Action}
 use Rattle.isa_step.specs.declared.acts.Action.TheVariants as action
-use Rattle.isa_step.specs.Deeds.{Deed}
+use Rattle.isa_step.specs.Effects.{Effect}
 use Rattle.run_journal.specs.declared.entry.What.TheVariants.{Got, Sent, Seen, Room, Missed, Read, ReadRefused, Wrote, WriteRefused, Raised, Slept, Stopped, HostSent, HostGot}
 use Rattle.board_machine.specs.declared.events.HostPart.TheVariants.{Sends}
 use Rattle.board_machine.specs.Places.{touch}
@@ -130,5 +130,5 @@ act_carries b f hosts pipes core act kind.Slept c = note_carries b f hosts pipes
 act_carries b f hosts pipes core act (kind.Raised esr) c = note_carries b f hosts pipes core act (Raised esr) (record { links = refl; feeds = refl; pending = refl; line = refl; put = refl; taken = refl; host = refl }) c
 act_carries b f hosts pipes core act (kind.Stopped cause) c = note_carries b f hosts pipes core act (Stopped cause) (record { links = refl; feeds = refl; pending = refl; line = refl; put = refl; taken = refl; host = refl }) c
 
-pub deed_carries : (b : Plan) (f : Fabric) (hosts : ℕ) (pipes : List Pipe) (core act : ℕ) (deed : Deed) → IsOffered (first_shown b pipes core) deed.action → Carries b f hosts pipes → Carries b (act_leaves core act deed f) hosts (flows (flow_of b.rows core deed.action) pipes)
-deed_carries b f hosts pipes core act deed h c = act_carries b (entered_some core act (entries_of_action deed.action) f) hosts (flows (flow_of b.rows core deed.action) pipes) core act deed.done.act (action_carries b f hosts pipes core act deed.action h c)
+pub effect_carries : (b : Plan) (f : Fabric) (hosts : ℕ) (pipes : List Pipe) (core act : ℕ) (effect : Effect) → IsOffered (first_shown b pipes core) effect.action → Carries b f hosts pipes → Carries b (act_leaves core act effect f) hosts (flows (flow_of b.rows core effect.action) pipes)
+effect_carries b f hosts pipes core act effect h c = act_carries b (entered_some core act (entries_of_action effect.action) f) hosts (flows (flow_of b.rows core effect.action) pipes) core act effect.done.act (action_carries b f hosts pipes core act effect.action h c)

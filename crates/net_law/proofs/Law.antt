@@ -9,9 +9,9 @@ use Rattle.axi_link.specs.declared.item.Item.{Item}
 use Rattle.axi_link.specs.Channel.{Channel, empty}
 use Rattle.isa_step.specs.declared.acts.Breaks.{Breaks}
 use Rattle.isa_step.specs.declared.acts.Idle.{Idle}
-use Rattle.isa_step.specs.Deeds.{View, Due, Does, Waits, Sleeps, Ends, Stops}
+use Rattle.isa_step.specs.Effects.{View, Due, Does, Waits, Sleeps, Ends, Stops}
 use Rattle.isa_step.specs.Due.{due}
-use Rattle.isa_step.specs.Resting.{IsHoped, idle_due, idle_view}
+use Rattle.isa_step.specs.Resting.{IsAnnounced, idle_due, idle_view}
 use Rattle.isa_step.proofs.RestLaws.{idle_lasts}
 use Rattle.board_file.specs.declared.board.BoardFile.{BoardFile}
 use Rattle.board_file.specs.declared.board.End.{End}
@@ -210,14 +210,14 @@ began_matches b views inputs w i s = record {
 -- where the board is still, nobody of the reference network can act
 
 still_does : (b : Plan) (core : ℕ) (n m : Net) (p : Process) (d : Due) (why : Idle) → idle_due d ≡ Some why → does b core n p d ≡ Some m → ⊥
-still_does b core n m p (Does deed) why e q = cc
+still_does b core n m p (Does effect) why e q = cc
 still_does b core n m p (Waits port full) why e q = cc
 still_does b core n m p Sleeps why e q = cc
 still_does b core n m p Ends why e q = cc
 still_does b core n m p (Stops cause) why e q = cc
 
-calm_hoped : (rows : List LinkRow) (links : List Channel) (core : ℕ) → IsHoped (ports_of rows links core)
-calm_hoped rows links core = record { interrupt = λ e. cc; maskable = λ e. cc; nonmaskable = λ e. cc }
+calm_announced : (rows : List LinkRow) (links : List Channel) (core : ℕ) → IsAnnounced (ports_of rows links core)
+calm_announced rows links core = record { interrupt = λ e. cc; maskable = λ e. cc; nonmaskable = λ e. cc }
 
 still_core : (b : Plan) (n m : Net) (w : World) (core count : ℕ) (o : Option Process) → Matches b w n count → Still w → slice_get n.processes core ≡ o → core_acts b core n o ≡ Some m → ⊥
 still_core b n m w core count None h s e q = cc
@@ -227,7 +227,7 @@ still_core b n m w core count (Some p) h s e q =
     let ports = ports_of b.rows (map channel_of n.pipes) core in
     let idle : idle_view p.view ports ≡ Some i.0 =
     ap (λ (p : Process). idle_view p.view ports) (sym r.2) ∙ ap (idle_view r.0.view) (sym (shown_is b w.fabric h.hosts n.pipes core h.carries)) ∙ sym (ap (idle_here w.fabric core) r.1) ∙ i.1 in
-    still_does b core n m p (due p.view ports) i.0 (idle_lasts p.view ports i.0 (calm_hoped b.rows (map channel_of n.pipes) core) idle) q
+    still_does b core n m p (due p.view ports) i.0 (idle_lasts p.view ports i.0 (calm_announced b.rows (map channel_of n.pipes) core) idle) q
 
 still_sends : (b : Plan) (n m : Net) (f : Fabric) (hosts k : ℕ) (t : Bool) (o : Option Item) → Carries b f hosts n.pipes → part_at (slice_get b.rows k) ≡ Sends → move_by f k Sends ≡ None → room_in (slice_get (map channel_of n.pipes) k) ≡ t → to_come (slice_get b.feeds k) (slice_get n.pipes k) ≡ o → sends k n t o ≡ Some m → ⊥
 still_sends b n m f hosts k false o c part none e d q = cc

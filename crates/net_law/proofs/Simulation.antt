@@ -8,7 +8,7 @@ use Rattle.std.proofs.lemmas.List.{map-set}
 use Rattle.axi_link.specs.declared.item.Item.{Item}
 use Rattle.axi_link.specs.Channel.{Channel}
 use Rattle.core_regs.specs.declared.causes.WaitOn.{WaitOn}
-use Rattle.isa_step.specs.Deeds.{View, Deed, Due, Does, Waits, Sleeps, Ends, Stops, after}
+use Rattle.isa_step.specs.Effects.{View, Effect, Due, Does, Waits, Sleeps, Ends, Stops, after}
 use Rattle.isa_step.specs.Due.{due}
 use Rattle.run_journal.specs.declared.entry.What.TheVariants.{Wait}
 use Rattle.board_file.specs.declared.board.LinkRow.{LinkRow}
@@ -17,7 +17,7 @@ use Rattle.board_machine.specs.declared.events.Event.TheVariants.{Devices, Host,
 use Rattle.board_machine.specs.declared.events.HostPart.{HostPart}
 use Rattle.board_machine.specs.declared.events.HostPart.TheVariants.{Sends, Takes, Nothing}
 use Rattle.board_machine.specs.Places.{touch}
-use Rattle.board_machine.specs.Fabric.{Fabric, Feed, channel_at, entered, entered_some, first_in, got_of, host_moves, is_kept, link_from, link_to, move_by, moved, next_of, no_core, part_at, room_in, sent_of, shown, waited}
+use Rattle.board_machine.specs.Fabric.{Fabric, Feed, channel_at, entered, entered_some, first_in, got_of, host_moves, is_logged, link_from, link_to, move_by, moved, next_of, no_core, part_at, room_in, sent_of, shown, waited}
 use Rattle.board_machine.specs.World.{World, CoreAt, TickStep, TickMay, IsAct, IsFilling, IsIdle, Step, Steps}
 use Rattle.board_machine.proofs.Lists.{set_itself}
 use Rattle.net_law.proofs.Confluence.{Path}
@@ -30,7 +30,7 @@ use Rattle.net_law.proofs.Kahn.{IsOffered, is_process}
 use Rattle.net_law.proofs.Diamond.{does_is, Marked, marked_keeps}
 use Rattle.net_law.proofs.Calm.{devices_calm, same_calm}
 use Rattle.net_law.proofs.Carried.{Carries, feed_at, note_carries, shown_is}
-use Rattle.net_law.proofs.Entries.{deed_carries, first_is, first_shown, got_by_host, sent_by_host}
+use Rattle.net_law.proofs.Entries.{effect_carries, first_is, first_shown, got_by_host, sent_by_host}
 
 -- the host
 
@@ -163,33 +163,33 @@ wait_carries b pipes core act on f hosts false c = note_carries b f hosts pipes 
 quiet_wait : (b : Plan) (n : Net) (w v : World) (core count : ℕ) (on : WaitOn) (h : TickStep core w v) → Matches b w n count → IsIdle h.was (waited core h.was.acts on w.fabric) h.is v.fabric → WorldRun b n v count
 quiet_wait b n w v core count on h m i =
     quiet b n w v core count h m (ap process_of i.state)
-    (subst (λ f. Carries b f m.hosts n.pipes) (sym i.fabric) (wait_carries b n.pipes core h.was.acts on w.fabric m.hosts (is_kept core h.was.acts w.fabric.journal) m.carries))
+    (subst (λ f. Carries b f m.hosts n.pipes) (sym i.fabric) (wait_carries b n.pipes core h.was.acts on w.fabric m.hosts (is_logged core h.was.acts w.fabric.journal) m.carries))
 
 -- the core did the act that is due
-act_offered : (b : Plan) (pipes : List Pipe) (core : ℕ) (v : View) (deed : Deed) → v.arch.network ≡ true → due v (ports_of b.rows (map channel_of pipes) core) ≡ Does deed → IsOffered (first_shown b pipes core) deed.action
-act_offered b pipes core v deed h e =
+act_offered : (b : Plan) (pipes : List Pipe) (core : ℕ) (v : View) (effect : Effect) → v.arch.network ≡ true → due v (ports_of b.rows (map channel_of pipes) core) ≡ Does effect → IsOffered (first_shown b pipes core) effect.action
+act_offered b pipes core v effect h e =
     let f = λ (port : ℕ). first_in (channel_at (map channel_of pipes) (link_to b.rows core port)) in
     let r = λ (port : ℕ). room_in (channel_at (map channel_of pipes) (link_from b.rows core port)) in
-    (is_process v f f r r deed h (λ port x q. q) (λ port q. q) e).moves
+    (is_process v f f r r effect h (λ port x q. q) (λ port q. q) e).moves
 
-one_act : (b : Plan) (n : Net) (w v : World) (core count : ℕ) (deed : Deed) (h : TickStep core w v) → Matches b w n count → due h.was.view (shown w.fabric core) ≡ Does deed → IsAct core deed h.was w.fabric h.is v.fabric → WorldRun b n v count
-one_act b n w v core count deed h m e act =
+one_act : (b : Plan) (n : Net) (w v : World) (core count : ℕ) (effect : Effect) (h : TickStep core w v) → Matches b w n count → due h.was.view (shown w.fabric core) ≡ Does effect → IsAct core effect h.was w.fabric h.is v.fabric → WorldRun b n v count
+one_act b n w v core count effect h m e act =
     let there = process_there b n w v core count h m in
-    let d : due h.was.view (ports_of b.rows (map channel_of n.pipes) core) ≡ Does deed = ap (due h.was.view) (sym (shown_is b w.fabric m.hosts n.pipes core m.carries)) ∙ e in
+    let d : due h.was.view (ports_of b.rows (map channel_of n.pipes) core) ≡ Does effect = ap (due h.was.view) (sym (shown_is b w.fabric m.hosts n.pipes core m.carries)) ∙ e in
     let net : Net = record {
-      processes = slice_set n.processes core (record { view = after h.was.view deed; acts = h.was.acts + 1 });
-      pipes = flows (flow_of b.rows core deed.action) n.pipes;
+      processes = slice_set n.processes core (record { view = after h.was.view effect; acts = h.was.acts + 1 });
+      pipes = flows (flow_of b.rows core effect.action) n.pipes;
     } in
-    let a : acts b (Core core) n ≡ Some net = ap (core_acts b core n) there ∙ ap (does b core n (process_of h.was)) d ∙ does_is b core n (process_of h.was) deed in
+    let a : acts b (Core core) n ≡ Some net = ap (core_acts b core n) there ∙ ap (does b core n (process_of h.was)) d ∙ does_is b core n (process_of h.was) effect in
     record {
       acts_done = Core core ∷ [];
       net = net;
       path = (net, a, refl);
       matches = record {
-        processes = ap (λ ps. slice_set ps core (record { view = after h.was.view deed; acts = h.was.acts + 1 })) m.processes
+        processes = ap (λ ps. slice_set ps core (record { view = after h.was.view effect; acts = h.was.acts + 1 })) m.processes
             ∙ sym (processes_after w v core h ∙ ap (λ (s : CoreAt). slice_set (map process_of w.cores) core (process_of s)) act.state);
         hosts = m.hosts;
-        carries = subst (λ f. Carries b f m.hosts net.pipes) (sym act.fabric) (deed_carries b w.fabric m.hosts n.pipes core h.was.acts deed (act_offered b n.pipes core h.was.view deed (m.marked core (process_of h.was) there) d) m.carries);
+        carries = subst (λ f. Carries b f m.hosts net.pipes) (sym act.fabric) (effect_carries b w.fabric m.hosts n.pipes core h.was.acts effect (act_offered b n.pipes core h.was.view effect (m.marked core (process_of h.was) there) d) m.carries);
         marked = marked_keeps b (Core core) n net m.marked a;
         counted =
             let s = sum_set (λ (s : CoreAt). s.acts) w.cores core h.was h.is h.there in
@@ -199,8 +199,8 @@ one_act b n w v core count deed h m e act =
     }
 
 sim_tick : (b : Plan) (n : Net) (w v : World) (core count : ℕ) (d : Due) (h : TickStep core w v) → Matches b w n count → due h.was.view (shown w.fabric core) ≡ d → TickMay core d h.was w.fabric h.is v.fabric → WorldRun b n v count
-sim_tick b n w v core count (Does deed) h m e (inl act) = one_act b n w v core count deed h m e act
-sim_tick b n w v core count (Does deed) h m e (inr i) = quiet_filling b n w v core count h m i
+sim_tick b n w v core count (Does effect) h m e (inl act) = one_act b n w v core count effect h m e act
+sim_tick b n w v core count (Does effect) h m e (inr i) = quiet_filling b n w v core count h m i
 sim_tick b n w v core count (Waits port full) h m e (inl i) = quiet_wait b n w v core count (record { port = port; full = full }) h m i
 sim_tick b n w v core count (Waits port full) h m e (inr i) = quiet_filling b n w v core count h m i
 sim_tick b n w v core count Sleeps h m e i = quiet_idle b n w v core count h m i

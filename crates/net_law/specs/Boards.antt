@@ -1,6 +1,6 @@
 -- Which boards are networks.
 use Rattle.std.specs.Prelude.{◌≡◌, ℕ, true, List, [], Some, slice_get}
-use Rattle.isa_step.specs.Deeds.{View}
+use Rattle.isa_step.specs.Effects.{View}
 use Rattle.board_file.specs.Board.{IsRead}
 use Rattle.board_file.specs.declared.board.BoardFile.{BoardFile}
 use Rattle.board_machine.specs.declared.events.HostPart.TheVariants.{Takes}

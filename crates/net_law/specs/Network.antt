@@ -8,7 +8,7 @@ use Rattle.axi_link.specs.Channel.{Channel}
 use Rattle.isa_step.specs.declared.acts.Action.{Action}
 use Rattle.isa_step.specs.declared.acts.Action.TheVariants.{Got, Sent}
 use Rattle.isa_step.specs.Shown.{Shown}
-use Rattle.isa_step.specs.Deeds.{View, Due, Does, after}
+use Rattle.isa_step.specs.Effects.{View, Due, Does, after}
 use Rattle.isa_step.specs.Due.{due}
 use Rattle.board_file.specs.declared.board.BoardFile.{BoardFile}
 use Rattle.board_file.specs.declared.board.LinkRow.{LinkRow}
@@ -70,7 +70,7 @@ ports_of rows links core = calm (λ port. first_in (channel_at links (link_to ro
 
 -- a core does the act that is due
 abbrev pub does : Plan → ℕ → Net → Process → Due → Option Net
-does plan core net p (Does deed) = Some (record { processes = slice_set net.processes core (record { view = after p.view deed; acts = p.acts + 1 }); pipes = pipes_after plan.rows core deed.action net.pipes })
+does plan core net p (Does effect) = Some (record { processes = slice_set net.processes core (record { view = after p.view effect; acts = p.acts + 1 }); pipes = pipes_after plan.rows core effect.action net.pipes })
 does plan core net p _ = None
 
 -- an input file's end sends the file's next item if there is room

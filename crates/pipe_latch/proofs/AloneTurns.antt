@@ -8,9 +8,9 @@ use Rattle.isa_step.specs.declared.acts.Act.TheVariants as acts
 use Rattle.isa_step.specs.declared.acts.Done.{Done}
 use Rattle.isa_step.specs.declared.acts.Here.{Here}
 use Rattle.isa_step.specs.declared.acts.Store.{Store}
-use Rattle.isa_step.specs.Deeds.{Deed, Due, Does, Waits, Sleeps, Ends, Stops, View, after}
+use Rattle.isa_step.specs.Effects.{Effect, Due, Does, Waits, Sleeps, Ends, Stops, View, after}
 use Rattle.isa_step.specs.Due.{due_with, here_at, met}
-use Rattle.isa_step.specs.Wants.{operands_of}
+use Rattle.isa_step.specs.Requests.{operands_of}
 use Rattle.prepared_act.specs.declared.flow.Flow.{Flow}
 use Rattle.prepared_act.specs.declared.prepared.Prepared.{Prepared}
 use Rattle.prepared_act.specs.Prepared.{result_register}
@@ -51,42 +51,42 @@ past_so : (here : Option Here) (i : Instr) (done : Done) (flow : Flow) (pc at : 
 past_so here i done flow pc at x act meant leads = rw (act, meant, leads) (ap (λ jump. retired i at jump x) (jump_so done.jumped done.store pc))
 
 -- an act
-acted_of : (dep : ℕ) (w : Prepared) (flow : Flow) (a b : Arch) (m n : List ℕ) (fl fs gs : List Flight) (file later : List ℕ) (d : ℕ) (t : Clocked) (deed : Deed)
-    → IsRetired deed flow (view_of a m) (view_of b n) → Ages file later fl fs d t → gs ≡ fs ++ begun deed.done.write → instr_of (here_at (bare a) m) ≡ Some w.instr
-    → staged b later n gs (went w.instr flow b.pc t) ≡ ticks.acted (staged a file m fl t) deed 63
-acted_of dep w flow a b m n fl fs gs file later d t deed h ages begin meant =
+acted_of : (dep : ℕ) (w : Prepared) (flow : Flow) (a b : Arch) (m n : List ℕ) (fl fs gs : List Flight) (file later : List ℕ) (d : ℕ) (t : Clocked) (effect : Effect)
+    → IsRetired effect flow (view_of a m) (view_of b n) → Ages file later fl fs d t → gs ≡ fs ++ begun effect.done.write → instr_of (here_at (bare a) m) ≡ Some w.instr
+    → staged b later n gs (went w.instr flow b.pc t) ≡ ticks.acted (staged a file m fl t) effect 63
+acted_of dep w flow a b m n fl fs gs file later d t effect h ages begin meant =
     let in_either : ℕ → Bool → CoreState = λ deep zero. record {
-      view = after (record { arch = a; memory = m }) deed;
+      view = after (record { arch = a; memory = m }) effect;
       acts = t.acts + 1;
       ticks = t.ticks + 1;
       slack = 63;
-      file = if zero then written deed.done.write (file_aged deep fl file) else file_aged deep fl file;
-      flights = if zero then flights_aged deep fl else flights_aged deep fl ++ begun deed.done.write;
-      past = past_after (here_at (bare a) m) deed.done deed.arch.pc t.ticks t.past;
+      file = if zero then written effect.done.write (file_aged deep fl file) else file_aged deep fl file;
+      flights = if zero then flights_aged deep fl else flights_aged deep fl ++ begun effect.done.write;
+      past = past_after (here_at (bare a) m) effect.done effect.arch.pc t.ticks t.past;
     } in
     let in_depth : ℕ → CoreState = λ deep. in_either deep (deep == 0) in
-    let pc : b.pc ≡ deed.arch.pc = ap (λ (v : View). v.arch.pc) h.view in
-    let past : retired w.instr t.ticks (jump_by flow b.pc) t.past ≡ past_after (here_at (bare a) m) deed.done deed.arch.pc t.ticks t.past =
-    past_so (here_at (bare a) m) w.instr deed.done flow b.pc t.ticks t.past h.retired meant h.leads ∙ ap (λ k. past_after (here_at (bare a) m) deed.done k t.ticks t.past) pc in
+    let pc : b.pc ≡ effect.arch.pc = ap (λ (v : View). v.arch.pc) h.view in
+    let past : retired w.instr t.ticks (jump_by flow b.pc) t.past ≡ past_after (here_at (bare a) m) effect.done effect.arch.pc t.ticks t.past =
+    past_so (here_at (bare a) m) w.instr effect.done flow b.pc t.ticks t.past h.retired meant h.leads ∙ ap (λ k. past_after (here_at (bare a) m) effect.done k t.ticks t.past) pc in
     let first : staged b later n gs (went w.instr flow b.pc t) ≡ in_either d false = λ k. record {
       view = h.view k;
       acts = t.acts + 1;
       ticks = t.ticks + 1;
       slack = 63;
       file = ages.file k;
-      flights = (begin ∙ ap (λ xs. xs ++ begun deed.done.write) ages.flights) k;
+      flights = (begin ∙ ap (λ xs. xs ++ begun effect.done.write) ages.flights) k;
       past = past k;
     } in
     first ∙ sym (ap (in_either d) ages.deep) ∙ sym (ap in_depth ages.depth)
 
 alone_of : (due : Due) (w : Prepared) (flow : Flow) (a b : Arch) (m n : List ℕ) (fl fs gs : List Flight) (file later : List ℕ) (d : ℕ) (t : Clocked)
-    → RetiresDue due flow (view_of a m) (view_of b n) → Ages file later fl fs d t → ((deed : Deed) → due ≡ Does deed → gs ≡ fs ++ begun deed.done.write) → instr_of (here_at (bare a) m) ≡ Some w.instr
+    → RetiresDue due flow (view_of a m) (view_of b n) → Ages file later fl fs d t → ((effect : Effect) → due ≡ Does effect → gs ≡ fs ++ begun effect.done.write) → instr_of (here_at (bare a) m) ≡ Some w.instr
     → ticks.AloneOf due false (staged a file m fl t) (staged b later n gs (went w.instr flow b.pc t))
-alone_of (Does deed) w flow a b m n fl fs gs file later d t h ages begin meant = (
+alone_of (Does effect) w flow a b m n fl fs gs file later d t h ages begin meant = (
   h.alone,
   h.retired,
   omega arith,
-  acted_of d w flow a b m n fl fs gs file later d t deed h ages (begin deed refl) meant,
+  acted_of d w flow a b m n fl fs gs file later d t effect h ages (begin effect refl) meant,
 )
 alone_of (Waits port full) w flow a b m n fl fs gs file later d t h ages begin meant = absurd h
 alone_of Sleeps w flow a b m n fl fs gs file later d t h ages begin meant = absurd h
@@ -107,8 +107,8 @@ staged_acts_alone w flow a b m n fl fs gs file later d i in_slot t u v at h long
       does = λ s calm.
           let due_here : Option Here → Due = λ x. due_with x (operands_of x a.regs) (bare a) m s in
           let done : RetiresDue (due_here (Some (record { word = w.word; instr = Some w.instr }))) flow (view_of a m) (view_of b n) = subst (λ (x : Option Here). RetiresDue (due_here x) flow (view_of a m) (view_of b n)) means (h.does s calm) in
-          let wrote : (deed : Deed) → due_here (here_at (bare a) m) ≡ Does deed → gs ≡ fs ++ begun deed.done.write = λ deed is.
-          begin ∙ ap (λ x. fs ++ begun x) (sym (inner_writes w.instr w.word a b m n flow s deed w.result inner calm done (sym (ap due_here here) ∙ is)
+          let wrote : (effect : Effect) → due_here (here_at (bare a) m) ≡ Does effect → gs ≡ fs ++ begun effect.done.write = λ effect is.
+          begin ∙ ap (λ x. fs ++ begun x) (sym (inner_writes w.instr w.word a b m n flow s effect w.result inner calm done (sym (ap due_here here) ∙ is)
           (w.result_met ∙ ap (λ k. result_register k w.instr.rd) w.kind_met) (subst (λ k. w.result < k) (sym long) w.result_named))) in
           subst (λ early. ticks.AloneOf (due_here (here_at (bare a) m)) early (staged a file m fl t) (staged b later n gs (went w.instr flow b.pc t)))
           (sym held ∙ holds_early a m file fl t is_set)

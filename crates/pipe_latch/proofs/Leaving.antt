@@ -6,9 +6,9 @@ use Rattle.mb_decode.specs.declared.instruction.Instr.{Instr}
 use Rattle.isa_step.specs.declared.acts.Done.{Done}
 use Rattle.isa_step.specs.declared.acts.Here.{Here}
 use Rattle.isa_step.specs.Shown.{Shown}
-use Rattle.isa_step.specs.Deeds.{Deed, Due, Does, Waits, Sleeps, Ends, Stops, View, after_store}
+use Rattle.isa_step.specs.Effects.{Effect, Due, Does, Waits, Sleeps, Ends, Stops, View, after_store}
 use Rattle.isa_step.specs.Due.{due_with, here_at, met}
-use Rattle.isa_step.specs.Wants.{operands_of}
+use Rattle.isa_step.specs.Requests.{operands_of}
 use Rattle.prepared_act.specs.declared.flow.Flow.{Flow}
 use Rattle.prepared_act.specs.declared.prepared.Prepared.{Prepared}
 use Rattle.prepared_act.specs.Prepared.{result_register}
@@ -37,10 +37,10 @@ pub record Leaves (w : Prepared) (flow : Flow) (a b : Arch) (m n : List ℕ) : T
   pub memory : n ≡ after_store a.order done.store m
 
 left_by : (due : Due) (w : Prepared) (flow : Flow) (a b : Arch) (m n : List ℕ) → RetiresDue due flow (view_of a m) (view_of b n)
-    → ((deed : Deed) → due ≡ Does deed → deed.done.write ≡ write_of w.result (reg b.regs w.result)) → Leaves w flow a b m n
-left_by (Does deed) w flow a b m n h write = record {
-  regs = ap (λ (v : View). v.arch.regs) h.view ∙ ap (λ x. written x a.regs) (write deed refl);
-  done = deed.done;
+    → ((effect : Effect) → due ≡ Does effect → effect.done.write ≡ write_of w.result (reg b.regs w.result)) → Leaves w flow a b m n
+left_by (Does effect) w flow a b m n h write = record {
+  regs = ap (λ (v : View). v.arch.regs) h.view ∙ ap (λ x. written x a.regs) (write effect refl);
+  done = effect.done;
   leads = h.leads;
   memory = ap (λ (v : View). v.memory) h.view;
 }
@@ -61,6 +61,6 @@ leaves w flow a b m n suits h long =
     let due_here : Option Here → Due = λ x. due_with x (operands_of x a.regs) (bare a) m calm in
     left_by (due_here (Some (record { word = w.word; instr = Some w.instr }))) w flow a b m n
     (subst (λ (x : Option Here). RetiresDue (due_here x) flow (view_of a m) (view_of b n)) (known w a suits) (h.does calm refl))
-    (λ deed is. inner_writes w.instr w.word a b m n flow calm deed w.result (w.inner suits.inner) refl
+    (λ effect is. inner_writes w.instr w.word a b m n flow calm effect w.result (w.inner suits.inner) refl
     (subst (λ (x : Option Here). RetiresDue (due_here x) flow (view_of a m) (view_of b n)) (known w a suits) (h.does calm refl)) is
     (w.result_met ∙ ap (λ k. result_register k w.instr.rd) w.kind_met) (subst (λ k. w.result < k) (sym long) w.result_named))

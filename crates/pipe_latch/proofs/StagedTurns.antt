@@ -12,7 +12,7 @@ use Rattle.isa_step.specs.declared.acts.Idle.{Idle}
 use Rattle.isa_step.specs.declared.acts.Outcome.TheVariants.{Did, Idle as Rests}
 use Rattle.mb_decode.specs.declared.instruction.Instr.{Instr}
 use Rattle.isa_step.specs.Shown.{Shown}
-use Rattle.isa_step.specs.Deeds.{Deed, Due, Does, Waits, Sleeps, Ends, Stops, after, after_store}
+use Rattle.isa_step.specs.Effects.{Effect, Due, Does, Waits, Sleeps, Ends, Stops, after, after_store}
 use Rattle.isa_step.specs.Due.{due, here_at, take_due}
 use Rattle.isa_step.specs.Resting.{is_quiet}
 use Rattle.isa_step.specs.Performing.{Performed, PerformedBy}
@@ -45,24 +45,24 @@ pub record Finds (a : Arch) (m : List ℕ) (shown : Shown) (here : Option Here) 
   pub set : IsSet t (instr_of (here_at (bare a) m)) (is_some a.slot)
   pub fills_is : fills ≡ (holds t && ticks.is_pending here (bare a) shown)
 
-staged_moved : (a b : Arch) (m n : List ℕ) (fl fs gs : List Flight) (file later : List ℕ) (d : ℕ) (t : Clocked) (here : Option Here) (told : Done) (deed : Deed)
-    → deed.done ≡ told → b ≡ record deed.arch { regs = written told.write a.regs } → n ≡ after_store a.order deed.done.store m
+staged_moved : (a b : Arch) (m n : List ℕ) (fl fs gs : List Flight) (file later : List ℕ) (d : ℕ) (t : Clocked) (here : Option Here) (told : Done) (effect : Effect)
+    → effect.done ≡ told → b ≡ record effect.arch { regs = written told.write a.regs } → n ≡ after_store a.order effect.done.store m
     → gs ≡ fs ++ begun told.write → here ≡ here_at (bare a) m → Ages file later fl fs d t
-    → staged b later n gs (moved here told b.pc t) ≡ ticks.acted (staged a file m fl t) deed 63
-staged_moved a b m n fl fs gs file later d t here told deed is_told arch memory begin at ages =
+    → staged b later n gs (moved here told b.pc t) ≡ ticks.acted (staged a file m fl t) effect 63
+staged_moved a b m n fl fs gs file later d t here told effect is_told arch memory begin at ages =
     let in_either : ℕ → Bool → CoreState = λ deep zero. record {
-      view = after (record { arch = a; memory = m }) deed;
+      view = after (record { arch = a; memory = m }) effect;
       acts = t.acts + 1;
       ticks = t.ticks + 1;
       slack = 63;
-      file = if zero then written deed.done.write (file_aged deep fl file) else file_aged deep fl file;
-      flights = if zero then flights_aged deep fl else flights_aged deep fl ++ begun deed.done.write;
-      past = past_after (here_at (bare a) m) deed.done deed.arch.pc t.ticks t.past;
+      file = if zero then written effect.done.write (file_aged deep fl file) else file_aged deep fl file;
+      flights = if zero then flights_aged deep fl else flights_aged deep fl ++ begun effect.done.write;
+      past = past_after (here_at (bare a) m) effect.done effect.arch.pc t.ticks t.past;
     } in
     let in_depth : ℕ → CoreState = λ deep. in_either deep (deep == 0) in
     let first : staged b later n gs (moved here told b.pc t) ≡ in_either d false =
     rw (begin, ages.flights, arch, memory, at, ages.file)
-    (subst (λ (e : Done). staged (record deed.arch { regs = written e.write a.regs }) (file_aged d fl file) (after_store a.order deed.done.store m) (flights_aged d fl ++ begun e.write) (moved (here_at (bare a) m) e deed.arch.pc t) ≡ in_either d false) is_told refl) in
+    (subst (λ (e : Done). staged (record effect.arch { regs = written e.write a.regs }) (file_aged d fl file) (after_store a.order effect.done.store m) (flights_aged d fl ++ begun e.write) (moved (here_at (bare a) m) e effect.arch.pc t) ≡ in_either d false) is_told refl) in
     first ∙ sym (ap (in_either d) ages.deep) ∙ sym (ap in_depth ages.depth)
 
 pub staged_ticked : (a b : Arch) (m n : List ℕ) (fl fs : List Flight) (file later : List ℕ) (d slack wait left : ℕ) (t : Clocked) → b ≡ a → n ≡ m → Ages file later fl fs d t
@@ -114,8 +114,8 @@ staged_acts done spare leaves shown here fills told a b c m n fl fs gs file late
     (record {
       does = did_turn done spare leaves _ _ _ told a b m n p q _ _ h.does (record {
         below = omega arith;
-        core = λ deed is_told arch memory.
-            staged_moved a c m n fl fs gs file later d t here told deed is_told (back ∙ ap (λ (x : Arch). record x { regs = written told.write x.regs }) arch) memory begin finds.met ages;
+        core = λ effect is_told arch memory.
+            staged_moved a c m n fl fs gs file later d t here told effect is_told (back ∙ ap (λ (x : Arch). record x { regs = written told.write x.regs }) arch) memory begin finds.met ages;
       }) (sym (fills_so a m file fl shown here t fills finds) ∙ goes);
     }))
 
@@ -148,7 +148,7 @@ staged_fills done spare leaves shown here fills a m fl fs file later d t u p age
 -- what stays of a core that does nothing, of its memory at an act, and of its pipeline
 pub did_stores : {P : Type 0} (done : P → List Action) (spare : P → ℕ) (leaves : P → Action → P → Type 0) (due : Due) (told : Done) (a b : Arch) (m n : List ℕ) (p q : P)
     → PerformedBy done spare leaves due (Did told) a m p b n q → n ≡ after_store a.order told.store m
-did_stores done spare leaves (Does deed) told a b m n p q h = h.memory ∙ ap (λ (e : Done). after_store a.order e.store m) (sym h.told_of)
+did_stores done spare leaves (Does effect) told a b m n p q h = h.memory ∙ ap (λ (e : Done). after_store a.order e.store m) (sym h.told_of)
 did_stores done spare leaves (Waits port full) told a b m n p q h = absurd h
 did_stores done spare leaves Sleeps told a b m n p q h = absurd h
 did_stores done spare leaves Ends told a b m n p q h = absurd h
@@ -157,7 +157,7 @@ did_stores done spare leaves (Stops cause) told a b m n p q h = absurd h
 -- an act leaves the registers as they were before its result is written
 pub did_regs : {P : Type 0} (done : P → List Action) (spare : P → ℕ) (leaves : P → Action → P → Type 0) (due : Due) (told : Done) (a b : Arch) (m n : List ℕ) (p q : P)
     → PerformedBy done spare leaves due (Did told) a m p b n q → b.regs ≡ a.regs
-did_regs done spare leaves (Does deed) told a b m n p q h = ap (λ (x : Arch). x.regs) h.arch
+did_regs done spare leaves (Does effect) told a b m n p q h = ap (λ (x : Arch). x.regs) h.arch
 did_regs done spare leaves (Waits port full) told a b m n p q h = absurd h
 did_regs done spare leaves Sleeps told a b m n p q h = absurd h
 did_regs done spare leaves Ends told a b m n p q h = absurd h

@@ -8,7 +8,7 @@ use Rattle.byte_mem.specs.Access.{bytes_of, loaded, stored}
 use Rattle.byte_mem.proofs.Storing.{length_stored, stored_elsewhere}
 use Rattle.isa_step.specs.declared.acts.Done.{Done}
 use Rattle.isa_step.specs.declared.acts.Store.{Store}
-use Rattle.isa_step.specs.Deeds.{after_store}
+use Rattle.isa_step.specs.Effects.{after_store}
 use Rattle.prepared_act.specs.declared.flow.Flow.TheVariants.{On, Stored}
 use Rattle.prepared_act.specs.Retiring.{flow_by, flow_of}
 use Rattle.pipe_latch.specs.declared.fetching.Fetched.{Fetched}

@@ -7,7 +7,7 @@ ghost use Rattle.core_regs.specs.State.{bare};
 ghost use Rattle.core_regs.specs.declared.causes.Order.{Order};
 ghost use Rattle.byte_mem.specs.Access.{loaded, stored};
 ghost use Rattle.isa_step.specs.Due.{here_at, met};
-ghost use Rattle.isa_step.specs.Deeds.{after_store};
+ghost use Rattle.isa_step.specs.Effects.{after_store};
 ghost use Rattle.isa_step.specs.declared.acts.Done.{Done};
 ghost use Rattle.isa_step.specs.declared.acts.Store.{Store};
 ghost use Rattle.prepared_act.specs.Retiring.{flow_of};

@@ -5,7 +5,7 @@ ghost use Rattle.std.specs.List.{find};
 ghost use Rattle.arrayvec.specs.ArrayVec.{array_vec_len};
 ghost use Rattle.core_regs.specs.State.{reg};
 ghost use Rattle.mb_decode.specs.Meaning.{NamesRegisters};
-ghost use Rattle.isa_step.specs.Wants.{operands_of};
+ghost use Rattle.isa_step.specs.Requests.{operands_of};
 ghost use Rattle.core_iface.specs.Flights.{applied, begun, flights_aged, file_aged, older};
 ghost use Rattle.pipe_latch.specs.Latches.{InStages, IsFree, flight_of, flown, youngest};
 

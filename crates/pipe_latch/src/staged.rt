@@ -3,7 +3,7 @@
 ghost use Rattle.std.specs.Prelude.{◌≡◌, ℕ, ◌<◌, ◌≤◌, ◌&&◌, ◌^◌, IfSome, is_some, length, None, true, false};
 ghost use Rattle.core_regs.specs.State.{bare, reg, write_of};
 ghost use Rattle.isa_step.specs.Due.{here_at};
-ghost use Rattle.isa_step.specs.Wants.{is_link};
+ghost use Rattle.isa_step.specs.Requests.{is_link};
 ghost use Rattle.timing_law.specs.Passing.{instr_of};
 ghost use Rattle.timing_law.specs.Table.{depth_of};
 ghost use Rattle.core_iface.specs.Cores.{made};
@@ -40,7 +40,7 @@ pub struct StagedCore<const STAGES: u8> {
     /// Whether the core runs, is awake, and stands at a word at which an act is due whatever the ports show.
     at_once: bool,
     /// Whether that word is kept, and its act inner.
-    is_kept: bool,
+    is_logged: bool,
     ghost stages: { HasStages STAGES },
     ghost pipe: { clock.past.pipe ≡ pipe_with STAGES },
     ghost flying: { InStages (depth_of (pipe_with STAGES)) 0 flights.stages } by { stages_prop (depth_of (pipe_with STAGES)) 0 flights.stages },
@@ -49,7 +49,7 @@ pub struct StagedCore<const STAGES: u8> {
     ghost set: { IsSet clock (instr_of (here_at (bare arch) memory)) (is_some arch.slot) } by { Prim.hlevel props },
     ghost runs: { at_once ≡ true → arch.stopped ≡ None },
     ghost awake: { at_once ≡ true → arch.asleep ≡ false },
-    ghost kept: { is_kept ≡ true → IsKept words.kept arch memory } by { Prim.hlevel props },
+    ghost kept: { is_logged ≡ true → IsKept words.kept arch memory } by { Prim.hlevel props },
     ghost goes: { at_once ≡ true → goes_on (here_at (bare arch) memory) ≡ true },
 }
 
@@ -141,7 +141,7 @@ fn meet_other(words: &Words, clock: &mut Clock, a: &Arch, m: &Memory) -> bool
 #[inline(always)]
 fn meet(
     words: &mut Words,
-    is_kept: &mut bool,
+    is_logged: &mut bool,
     clock: &mut Clock,
     queue: &Queue,
     a: &Arch,
@@ -152,15 +152,15 @@ fn meet(
     ensures clock { clock.new ≡ set (instr_of (here_at (bare a.now) m.now)) (is_some a.now.slot) clock.old }
     ensures runs { result ≡ true → a.now.stopped ≡ None }
     ensures awake { result ≡ true → a.now.asleep ≡ false }
-    ensures kept { is_kept.new ≡ true → IsKept words.new.kept a.now m.now }
+    ensures kept { is_logged.new ≡ true → IsKept words.new.kept a.now m.now }
     ensures goes { result ≡ true → goes_on (here_at (bare a.now) m.now) ≡ true }
 {
     if words.look_at(a, m, queue.word_at_pc(a, m)) {
-        *is_kept = true;
+        *is_logged = true;
         clock.begin_inner(words.at(a.pc), a.slot.is_some());
         is_up(a)
     } else {
-        *is_kept = false;
+        *is_logged = false;
         meet_other(words, clock, a, m) && is_up(a)
     }
 }
@@ -177,8 +177,15 @@ impl<const STAGES: u8> StagedCore<STAGES> {
         let queue = Queue::new(arch.order, arch.pc);
         let mut words = Words::new();
         let mut clock = Clock::new(pipe_with(STAGES));
-        let mut is_kept = false;
-        let at_once = meet(&mut words, &mut is_kept, &mut clock, &queue, &arch, &memory);
+        let mut is_logged = false;
+        let at_once = meet(
+            &mut words,
+            &mut is_logged,
+            &mut clock,
+            &queue,
+            &arch,
+            &memory,
+        );
         StagedCore {
             file: arch.regs,
             arch,
@@ -188,7 +195,7 @@ impl<const STAGES: u8> StagedCore<STAGES> {
             clock,
             words,
             at_once,
-            is_kept,
+            is_logged,
         }
     }
 
@@ -207,7 +214,7 @@ impl<const STAGES: u8> StagedCore<STAGES> {
             self.clock.fill();
             return true;
         }
-        if !self.is_kept {
+        if !self.is_logged {
             return false;
         }
         are_all(&self.arch.regs);
@@ -223,7 +230,7 @@ impl<const STAGES: u8> StagedCore<STAGES> {
         self.queue.fetch(&self.memory, self.arch.pc);
         self.at_once = meet(
             &mut self.words,
-            &mut self.is_kept,
+            &mut self.is_logged,
             &mut self.clock,
             &self.queue,
             &self.arch,
@@ -261,7 +268,7 @@ impl<const STAGES: u8> Core for StagedCore<STAGES> {
                 self.queue.fetch(&self.memory, self.arch.pc);
                 self.at_once = meet(
                     &mut self.words,
-                    &mut self.is_kept,
+                    &mut self.is_logged,
                     &mut self.clock,
                     &self.queue,
                     &self.arch,
@@ -271,7 +278,7 @@ impl<const STAGES: u8> Core for StagedCore<STAGES> {
             }
             Outcome::Idle(idle) => {
                 self.at_once = false;
-                self.is_kept = false;
+                self.is_logged = false;
                 self.queue.fetch(&self.memory, self.arch.pc);
                 self.clock.stay();
                 rest_of(idle, &here, &self.arch, ports)

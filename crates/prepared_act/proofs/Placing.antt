@@ -5,23 +5,23 @@ use Rattle.core_regs.specs.declared.registers.Arch.{Arch}
 use Rattle.core_regs.specs.State.{bare, reg}
 use Rattle.mb_decode.specs.declared.instruction.Instr.{Instr}
 use Rattle.isa_step.specs.declared.acts.Operands.{Operands}
-use Rattle.isa_step.specs.declared.supplying.Given.{Given}
+use Rattle.isa_step.specs.declared.operands.Given.{Given}
 use Rattle.op_table.specs.declared.kinds.Kind.{Kind}
 use Rattle.op_table.specs.declared.kinds.Kind.TheVariants.{Get, Put}
 use Rattle.op_table.specs.Table.{kind_of, second_of}
 use Rattle.isa_step.specs.Links.{is_nonblocking}
-use Rattle.isa_step.specs.Deeds.{View, Want}
-use Rattle.isa_step.specs.Wants.{belongs_into_slot, effect, given, is_banned, is_link, operands_by, second_value, wants_kind}
+use Rattle.isa_step.specs.Effects.{View, Request}
+use Rattle.isa_step.specs.Requests.{belongs_into_slot, request_of, given, is_banned, is_link, operands_by, second_value, requested_kind}
 use Rattle.prepared_act.specs.declared.flow.Flow.{Flow}
 use Rattle.prepared_act.specs.Prepared.{is_inner}
-use Rattle.prepared_act.specs.Retiring.{RetiresWant, supplied}
+use Rattle.prepared_act.specs.Retiring.{RetiresRequest, supplied}
 
 -- what holds for each flow carries a fact of an answer over
 pub for_some : (o : Option Flow) (P Q : Flow → Type 0) → ((flow : Flow) → P flow → Q flow) → IfSome o P → IfSome o Q
 for_some None P Q so h = h
 for_some (Some flow) P Q so h = so flow h
 
-other : (flow : Flow) (v w : View) (b : Bool) (x y : Want) → b ≡ false → RetiresWant y flow v w → RetiresWant (if b then x else y) flow v w
+other : (flow : Flow) (v w : View) (b : Bool) (x y : Request) → b ≡ false → RetiresRequest y flow v w → RetiresRequest (if b then x else y) flow v w
 other flow v w true x y e done = cc
 other flow v w false x y e done = done
 
@@ -38,7 +38,7 @@ middle false l b e = refl
 
 placed : (kind : Kind) (i : Instr) (word : ℕ) (o : Operands) (a : Arch) (m : List ℕ) (flow : Flow) (v w : View)
     → is_link kind ≡ false → (is_some a.slot && not (belongs_into_slot kind)) ≡ false
-    → RetiresWant (effect kind (given i o a) a m) flow v w → RetiresWant (wants_kind kind i word o a m) flow v w
+    → RetiresRequest (request_of kind (given i o a) a m) flow v w → RetiresRequest (requested_kind kind i word o a m) flow v w
 placed kind i word o a m flow v w link slot done =
     other flow v w (is_banned i kind a.network) _ _ (middle a.network (is_link kind) (is_nonblocking i.flags) link)
     (other flow v w (is_some a.slot && not (belongs_into_slot kind)) _ _ slot done)
@@ -53,10 +53,10 @@ pub in_place : (kind : Kind) (i : Instr) (word : ℕ) (a : Arch) (m : List ℕ) 
     → kind ≡ kind_of i.op → is_inner (kind_of i.op) ≡ true
     → x ≡ reg a.regs i.ra → y ≡ second_value (second_of i.op) (bare a) i (operands_by (Some i) a.regs)
     → (is_some a.slot && not (belongs_into_slot kind)) ≡ false
-    → RetiresWant (effect kind (supplied i x y a) (bare a) m) flow v w
-    → RetiresWant (wants_kind (kind_of i.op) i word (operands_by (Some i) a.regs) (bare a) m) flow v w
+    → RetiresRequest (request_of kind (supplied i x y a) (bare a) m) flow v w
+    → RetiresRequest (requested_kind (kind_of i.op) i word (operands_by (Some i) a.regs) (bare a) m) flow v w
 in_place kind i word a m x y flow v w is inner ex ey slot done =
     placed (kind_of i.op) i word _ (bare a) m flow v w (no_link _ inner)
     (subst (λ (k : Kind). (is_some a.slot && not (belongs_into_slot k)) ≡ false) is slot)
-    (subst (λ (k : Kind). RetiresWant (effect k (given i (operands_by (Some i) a.regs) (bare a)) (bare a) m) flow v w) is
-    (subst (λ (g : Given). RetiresWant (effect kind g (bare a) m) flow v w) (supplied_is_given i a x y ex ey) done))
+    (subst (λ (k : Kind). RetiresRequest (request_of k (given i (operands_by (Some i) a.regs) (bare a)) (bare a) m) flow v w) is
+    (subst (λ (g : Given). RetiresRequest (request_of kind g (bare a) m) flow v w) (supplied_is_given i a x y ex ey) done))

@@ -3,7 +3,7 @@ use Rattle.std.specs.Prelude.{◌≡◌, ℕ, ◌==◌, ◌&&◌, not, Bool, tru
 use Rattle.mb_word.specs.Word.{sign_extend_16}
 use Rattle.mb_decode.specs.declared.instruction.Instr.{Instr}
 use Rattle.mb_decode.specs.Meaning.{NamesRegisters, meaning}
-use Rattle.isa_step.specs.Wants.{end_word}
+use Rattle.isa_step.specs.Requests.{end_word}
 use Rattle.isa_step.specs.declared.acts.Late.{Late}
 use Rattle.op_table.specs.declared.kinds.Kind.{Kind}
 use Rattle.op_table.specs.declared.kinds.Kind.TheVariants.{Divide, Cache, MoveFrom, MoveToMsr, SetMsr, ClearMsr, Branch, BranchIf, Break, Barrier, Return, Prefix, Store, Get, Put}
@@ -12,7 +12,7 @@ use Rattle.op_table.specs.declared.kinds.Return.TheVariants as ret
 use Rattle.op_table.specs.declared.kinds.Second.{Second}
 use Rattle.op_table.specs.declared.kinds.Second.TheVariants.{Register, Immediate, Count}
 use Rattle.op_table.specs.Table.{kind_of}
-use Rattle.isa_step.specs.Wants.{late_at, latency_of}
+use Rattle.isa_step.specs.Requests.{late_at, latency_of}
 
 -- the field of the second operand as it is used where no prefix is held
 abbrev pub extended_of : Second → ℕ → ℕ

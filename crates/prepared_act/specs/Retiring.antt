@@ -7,15 +7,15 @@ use Rattle.isa_step.specs.declared.acts.Act.TheVariants as acts
 use Rattle.isa_step.specs.declared.acts.Done.{Done}
 use Rattle.isa_step.specs.declared.acts.Here.{Here}
 use Rattle.isa_step.specs.declared.acts.Store.{Store}
-use Rattle.isa_step.specs.declared.supplying.Given.{Given}
+use Rattle.isa_step.specs.declared.operands.Given.{Given}
 use Rattle.op_table.specs.Table.{kind_of}
 use Rattle.isa_step.specs.Shown.{Shown}
 use Rattle.prepared_act.specs.declared.flow.Flow.{Flow}
 use Rattle.prepared_act.specs.declared.flow.Flow.TheVariants.{On, Jumped, Stored}
 use Rattle.prepared_act.specs.declared.prepared.Prepared.{Prepared}
-use Rattle.isa_step.specs.Deeds.{Deed, Due, Does, Want, Goes, View, after}
+use Rattle.isa_step.specs.Effects.{Effect, Due, Does, Request, Goes, View, after}
 use Rattle.isa_step.specs.Due.{due_with}
-use Rattle.isa_step.specs.Wants.{belongs_into_slot, late_at, latency_of, operands_of}
+use Rattle.isa_step.specs.Requests.{belongs_into_slot, late_at, latency_of, operands_of}
 
 -- an interrupt or a break is offered
 abbrev pub is_offered : Shown → Bool
@@ -33,12 +33,12 @@ flow_by false (Some s) = Stored s.addr
 abbrev pub flow_of : Done → Flow
 flow_of done = flow_by done.jumped done.store
 
--- the deed asks nothing of the outside, retires and leads as told, and the view is what it leaves
-pub record IsRetired (deed : Deed) (flow : Flow) (v w : View) : Type 0 where
-  pub alone : deed.action ≡ None
-  pub retired : deed.done.act ≡ acts.Retired
-  pub leads : flow ≡ flow_of deed.done
-  pub view : w ≡ after v deed
+-- the effect asks nothing of the outside, retires and leads as told, and the view is what it leaves
+pub record IsRetired (effect : Effect) (flow : Flow) (v w : View) : Type 0 where
+  pub alone : effect.action ≡ None
+  pub retired : effect.done.act ≡ acts.Retired
+  pub leads : flow ≡ flow_of effect.done
+  pub view : w ≡ after v effect
 
 -- the act of a core at the word is inner, and stands in its place
 pub record Suits (q : Prepared) (a : Arch) : Type 0 where
@@ -50,18 +50,18 @@ pub record StaysUp (a b : Arch) : Type 0 where
   pub runs : b.stopped ≡ a.stopped
   pub awake : b.asleep ≡ a.asleep
 
--- the registers after a deed
-abbrev pub arch_after : Arch → Deed → Arch
+-- the registers after a effect
+abbrev pub arch_after : Arch → Effect → Arch
 arch_after a d = record d.arch { regs = written d.done.write a.regs }
 
 -- of what an instruction asks
-abbrev pub RetiresWant : Want → Flow → View → View → Type 0
-RetiresWant (Goes deed) flow v w = IsRetired deed flow v w
-RetiresWant _ flow v w = ⊥
+abbrev pub RetiresRequest : Request → Flow → View → View → Type 0
+RetiresRequest (Goes effect) flow v w = IsRetired effect flow v w
+RetiresRequest _ flow v w = ⊥
 
 -- of what is due
 abbrev pub RetiresDue : Due → Flow → View → View → Type 0
-RetiresDue (Does deed) flow v w = IsRetired deed flow v w
+RetiresDue (Does effect) flow v w = IsRetired effect flow v w
 RetiresDue _ flow v w = ⊥
 
 -- an instruction with the values of its operands, by the values of rA and of its second operand

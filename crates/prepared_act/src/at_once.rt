@@ -11,9 +11,9 @@ ghost use Rattle.op_table.specs.Table.{kind_of, second_of};
 ghost use Rattle.op_table.specs.declared.kinds.Return.TheVariants.{Subroutine};
 ghost use Rattle.isa_step.specs.Special.{holds_prefix};
 ghost use Rattle.isa_step.specs.Due.{met};
-ghost use Rattle.isa_step.specs.Wants.{belongs_into_slot, deed_of, effect, operands_by, second_value, wants_kind};
+ghost use Rattle.isa_step.specs.Requests.{belongs_into_slot, effect_of, request_of, operands_by, second_value, requested_kind};
 ghost use Rattle.prepared_act.specs.Prepared.{is_inner};
-ghost use Rattle.prepared_act.specs.Retiring.{IsRetired, arch_after, Retires, RetiresWant, StaysUp, Suits, supplied, view_of};
+ghost use Rattle.prepared_act.specs.Retiring.{IsRetired, arch_after, Retires, RetiresRequest, StaysUp, Suits, supplied, view_of};
 
 use crate::accessing::{leaves, loads, stores};
 use crate::flow::Flow;
@@ -175,11 +175,11 @@ fn branches_if(i: &Instr, a: &mut Arch, delayed: bool, taken: bool, x: u32, y: u
 
 /// An instruction of an inner kind, by the values of rA and of the second operand. Nothing changes where it answers
 /// `None`.
-#[tactic(auto, unfolding(isa_step::specs::Wants::effect, isa_step::specs::Wants::deed_of))]
+#[tactic(auto, unfolding(isa_step::specs::Requests::request_of, isa_step::specs::Requests::effect_of))]
 #[inline(always)]
 fn retire_kind(kind: &Kind, i: &Instr, a: &mut Arch, m: &mut Memory, x: u32, y: u32) -> Option<Flow>
     requires { i.now.rd < 32 }
-    ensures done { IfSome result (λ flow. RetiresWant (effect kind.now (supplied i.now x y a.old) (bare a.old) m.old) flow (view_of a.old m.old) (view_of a.new m.new)) }
+    ensures done { IfSome result (λ flow. RetiresRequest (request_of kind.now (supplied i.now x y a.old) (bare a.old) m.old) flow (view_of a.old m.old) (view_of a.new m.new)) }
     ensures arch { result ≡ None → a.new ≡ a.old }
     ensures memory { result ≡ None → m.new ≡ m.old }
     ensures up { StaysUp a.old a.new }
@@ -255,7 +255,7 @@ fn retire_kind(kind: &Kind, i: &Instr, a: &mut Arch, m: &mut Memory, x: u32, y: 
 fn retire_instr(q: &Prepared, a: &mut Arch, m: &mut Memory) -> Option<Flow>
     requires inner { is_inner (kind_of q.now.instr.op) ≡ true }
     requires fits { (is_some a.old.slot && not (belongs_into_slot q.now.kind)) ≡ false }
-    ensures done { IfSome result (λ flow. RetiresWant (wants_kind (kind_of q.now.instr.op) q.now.instr q.now.word (operands_by (Some q.now.instr) a.old.regs) (bare a.old) m.old) flow (view_of a.old m.old) (view_of a.new m.new)) }
+    ensures done { IfSome result (λ flow. RetiresRequest (requested_kind (kind_of q.now.instr.op) q.now.instr q.now.word (operands_by (Some q.now.instr) a.old.regs) (bare a.old) m.old) flow (view_of a.old m.old) (view_of a.new m.new)) }
     ensures arch { result ≡ None → a.new ≡ a.old }
     ensures memory { result ≡ None → m.new ≡ m.old }
     ensures up { StaysUp a.old a.new }

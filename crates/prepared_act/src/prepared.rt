@@ -3,7 +3,7 @@
 ghost use Rattle.std.specs.Prelude.{◌≡◌, ◌<◌, ◌==◌, if◌then◌else◌, false, true, None, Some, IfSome};
 ghost use Rattle.mb_decode.specs.Meaning.{NamesRegisters, meaning};
 ghost use Rattle.op_table.specs.Table.{kind_of, second_of};
-ghost use Rattle.isa_step.specs.Wants.{belongs_into_slot, end_word, latency_of};
+ghost use Rattle.isa_step.specs.Requests.{belongs_into_slot, end_word, latency_of};
 ghost use Rattle.prepared_act.specs.Prepared.{IsInner, extended_of, is_inner, is_return, late_register, result_register};
 ghost use Rattle.isa_step.specs.Due.{met};
 

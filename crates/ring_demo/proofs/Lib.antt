@@ -3,4 +3,3 @@ pub mod Images
 pub mod Rings
 pub mod Tallies
 pub mod Shown
-pub mod Starting

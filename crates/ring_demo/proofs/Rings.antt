@@ -5,7 +5,7 @@ use Rattle.std.proofs.lemmas.List.FromFn.{length-map-range_with_len}
 use Rattle.std.proofs.lemmas.Option.{same_Some, slice_get-map}
 use Rattle.std.specs.List.{range_with_len}
 use Rattle.core_regs.specs.declared.registers.Arch.{Arch}
-use Rattle.isa_step.specs.Deeds.{View}
+use Rattle.isa_step.specs.Effects.{View}
 use Rattle.timing_law.specs.Past.{fresh as fresh_past}
 use Rattle.timing_law.specs.declared.pipe.Pipe.{Pipe}
 use Rattle.timing_law.specs.declared.pipe.Pipe.TheVariants as pipe

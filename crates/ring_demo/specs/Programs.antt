@@ -5,7 +5,7 @@ use Rattle.std.specs.Int.{to_be_bytes}
 use mir.Syntax.{w32}
 use Rattle.core_regs.specs.State.{fresh}
 use Rattle.core_regs.specs.declared.causes.Order.TheVariants.{Big}
-use Rattle.isa_step.specs.Deeds.{View}
+use Rattle.isa_step.specs.Effects.{View}
 use Rattle.board_machine.specs.World.{Inputs}
 use Rattle.ring_demo.specs.Ring.{cores_of}
 

@@ -5,7 +5,7 @@ ghost use Rattle.piece_output.specs.Stored.{Continues, IsWriting, Wrote};
 ghost use Rattle.run_output.specs.Texts.{journal_text};
 ghost use Rattle.run_output.specs.Threads.{Knows, Lie, file_of, through};
 
-use crate::pieces::{Exit, Lines, Pieces};
+use crate::pieces::{Exit, FileContent, Lines};
 use crate::threads::Threads;
 use board_file::BoardFile;
 use host_io::{FileName, NoMemory, Shelf, StoreFault};
@@ -21,11 +21,11 @@ const SIZE: usize = 65_536;
 /// All its memory is taken by `reserve`: the other calls take none, and what they answer for want of memory is the
 /// shelf's own.
 #[derive(Drop)]
-pub struct Chunks {
+pub struct OutputWriter {
     bytes: Vec<u8>,
 }
 
-impl Model for Chunks {
+impl Model for OutputWriter {
     ghost use Rattle.std.specs.Prelude.{◌≤◌, List, ℕ, vec_len, vec_capacity};
 
     ghost Value = { List ℕ };
@@ -35,13 +35,13 @@ impl Model for Chunks {
     ghost invariant = { λ c. (vec_len c.bytes ≤ 65536) × (65536 ≤ vec_capacity c.bytes) };
 }
 
-impl Chunks {
+impl OutputWriter {
     /// Takes the memory of the buffer. It fails only for want of memory.
-    pub fn reserve(alloc: Global) -> Result<Chunks, NoMemory>
+    pub fn reserve(alloc: Global) -> Result<OutputWriter, NoMemory>
         ensures { IfOk result (λ chunks. chunks ≡ []) }
     {
         let bytes = Vec::with_capacity(alloc, SIZE)?;
-        Ok(Chunks { bytes })
+        Ok(OutputWriter { bytes })
     }
 
     /// Writes the text of a journal: a line for each entry, with the names of a board.
@@ -96,7 +96,7 @@ impl Chunks {
     }
 
     /// Adds what each of these entries adds to a file.
-    fn add_all<S: Shelf, P: Pieces>(
+    fn add_all<S: Shelf, P: FileContent>(
         &mut self,
         alloc: Global,
         shelf: &mut S,

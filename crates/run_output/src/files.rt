@@ -6,7 +6,7 @@ ghost use Rattle.run_output.specs.Outputs.{WroteOutputs, output_of_journal, outp
 ghost use Rattle.piece_output.specs.Stored.{Wrote};
 ghost use Rattle.run_output.specs.Threads.{Lie};
 
-use crate::chunks::Chunks;
+use crate::chunks::OutputWriter;
 use crate::outputs::OutputFault;
 use crate::pieces::Exit;
 use crate::threads::Threads;
@@ -15,7 +15,7 @@ use host_io::{FileName, Shelf, StoreFault};
 use run_journal::Entry;
 use std::alloc::Global;
 
-impl Chunks {
+impl OutputWriter {
     /// Writes the files of a run: those of the links and then of the UARTs in board order, and then the journal, where
     /// a file is named for it. It stops at the first that is refused.
     #[tactic(auto, unfolding(crate::specs::Outputs::outputs_of))]

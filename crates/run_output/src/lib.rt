@@ -26,4 +26,4 @@ mod threads;
 
 pub use laws::writings_are_told;
 pub use outputs::{OutputFault, Outputs};
-pub use report::{CoreEnd, CoreEnds};
+pub use report::{CoreEnd, CoreEnds, core_line};

@@ -4,7 +4,7 @@ ghost use Rattle.host_io.specs.Outside.{Adds};
 ghost use Rattle.run_output.specs.Outputs.{WroteOutputs, outputs_of};
 ghost use Rattle.run_output.specs.Report.{report_text};
 
-use crate::chunks::Chunks;
+use crate::chunks::OutputWriter;
 use crate::print::print_report;
 use crate::report::CoreEnds;
 use crate::tally::Tally;
@@ -22,7 +22,7 @@ use std::marker::Model;
 #[derive(Drop)]
 pub struct Outputs {
     board: BoardFile,
-    chunks: Chunks,
+    chunks: OutputWriter,
     threads: Threads,
     tally: Tally,
 }
@@ -56,7 +56,7 @@ impl Outputs {
         ensures { IfOk result (λ o. o ≡ board) }
     {
         let (links, uarts) = (board.links.len(), board.uarts.len());
-        let chunks = Chunks::reserve(alloc)?;
+        let chunks = OutputWriter::reserve(alloc)?;
         let threads = Threads::reserve(alloc, links, uarts, entries)?;
         let tally = Tally::reserve(alloc, board.links.as_slice(), uarts)?;
         Ok(Outputs {

@@ -11,7 +11,7 @@ use link_file::item_bytes;
 use run_journal::{Entry, What, line_of};
 
 /// What a file takes from each entry of a journal.
-pub trait Pieces {
+pub trait FileContent {
     /// The bytes that an entry adds.
     ghost bytes: { Self → Entry → List ℕ };
 
@@ -27,7 +27,7 @@ pub enum Exit {
     Uart(usize),
 }
 
-impl Pieces for Exit {
+impl FileContent for Exit {
     ghost bytes = { bytes_at };
 
     fn piece(&self, e: &Entry) -> LongText {
@@ -68,7 +68,7 @@ pub struct Lines<'a> {
     pub board: &'a BoardFile,
 }
 
-impl Pieces for Lines<'_> {
+impl FileContent for Lines<'_> {
     ghost bytes = { λ p e. journal_line p.board.now e };
 
     fn piece(&self, e: &Entry) -> LongText {

@@ -1,7 +1,7 @@
 -- Whether the act of a core is held back by its past.
 use Rattle.std.specs.Prelude.{ℕ, ◌&&◌, nat_lt, is_none, is_some, Bool}
 use Rattle.core_regs.specs.State.{bare}
-use Rattle.isa_step.specs.Deeds.{View}
+use Rattle.isa_step.specs.Effects.{View}
 use Rattle.isa_step.specs.Due.{here_of, take_due}
 use Rattle.isa_step.specs.Shown.{Shown}
 use Rattle.timing_law.specs.declared.past.Past.{Past}

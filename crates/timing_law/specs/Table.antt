@@ -7,7 +7,7 @@ use Rattle.op_table.specs.declared.kinds.Latency.TheVariants.{Single, Multiply, 
 use Rattle.op_table.specs.declared.kinds.Kind.{Kind}
 use Rattle.op_table.specs.declared.kinds.Kind.TheVariants as kind
 use Rattle.op_table.specs.Table.{kind_of}
-use Rattle.isa_step.specs.Wants.{late_at, latency_of}
+use Rattle.isa_step.specs.Requests.{late_at, latency_of}
 use Rattle.timing_law.specs.declared.pipe.Pipe.{Pipe}
 use Rattle.timing_law.specs.declared.pipe.Pipe.TheVariants.{Plain, Three, Five, Eight}
 use Rattle.timing_law.specs.declared.pipe.Jump.{Jump}

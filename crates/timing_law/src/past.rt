@@ -2,7 +2,7 @@
 
 ghost use Rattle.std.specs.Prelude.{◌≡◌, ◌<◌, ◌≤◌, ◌^◌, IfSome, Some, max};
 ghost use Rattle.std.specs.Option.{option_copied};
-ghost use Rattle.isa_step.specs.Wants.{late_at, latency_of};
+ghost use Rattle.isa_step.specs.Requests.{late_at, latency_of};
 ghost use Rattle.op_table.specs.Table.{is_store, kind_of};
 ghost use Rattle.mb_decode.specs.Meaning.{NamesRegisters};
 ghost use Rattle.timing_law.specs.Past.{begins_at, due_at, fetched_at, fresh, marked, operands_at, retired, turned, used};

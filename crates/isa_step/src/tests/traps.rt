@@ -2,7 +2,7 @@
 
 use super::{Core, booted};
 use crate::acts::{Act, Breaks, Hopes, Idle, Step};
-use crate::idling::idle;
+use crate::resting::idle;
 use core_regs::{Msr, Take};
 use std::test::Fail;
 

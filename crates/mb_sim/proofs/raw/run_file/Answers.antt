@@ -12,5 +12,6 @@ returns-in-Some-clause-ok g c =
       image = c.in-Ok.image;
       told = subst P c.as_text.ensures.text c.in-Ok.ensures.answer.0;
       within = c.in-Ok.ensures.answer.1;
-      ran = subst Q c.as_slice.ensures c.in-Some.ensures;
+      ran = subst Q c.as_slice.ensures c.in-Some.ensures.ran;
+      tells = c.in-Some.ensures.tells;
     }

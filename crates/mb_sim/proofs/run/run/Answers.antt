@@ -1,15 +1,14 @@
-use Rattle.std.proofs.Common.{◌≡◌, ℕ, List, length, map, arith, refl, sym, ap, subst, ◌∙◌}
+use Rattle.std.proofs.Common.{length, map, arith, refl, sym, ap, subst, ◌∙◌}
 use Rattle.host_io.specs.Outside.{ShelfState}
 use Rattle.any_core.specs.States.{any_state}
 use Rattle.any_core.specs.declared.AnyCore.{AnyCore}
-use Rattle.mb_sim.specs.declared.status.Status.{Status}
-use Rattle.mb_sim.specs.Board.{Says, no_memory, refused}
+use Rattle.mb_sim.specs.Board.{no_memory}
 use Rattle.mb_sim.specs.Top.{CountsLoads, CountsWrites}
 use Rattle.exact_machine.proofs.Beginning.{fresh_count}
 use Rattle.exact_machine.specs.Machine.{ExactWorld}
 use Rattle.board_file.specs.declared.board.BoardFile.{BoardFile}
-use Rattle.ring_demo.proofs.Starting.{can_run}
-use Rattle.mb_sim.proofs.Boards.{loaded_count, puts_loads, puts_stores, puts_writes, says_played}
+use Rattle.exact_machine.proofs.Starting.{can_run}
+use Rattle.mb_sim.proofs.Boards.{loaded_count, puts_loads, puts_stores, puts_writes, says_played, says_refused}
 use Rattle.mb_sim.proofs.Probes.{have_room}
 use Rattle.mb_sim.proofs.run.run.Goals as goal
 
@@ -27,15 +26,14 @@ play-requires g c =
 
 pub returns-in-Err-clause-says : goal.returns-in-Err-clause-says
 returns-in-Err-clause-says g c =
-    let P : Status → Type 0 = λ s. Says c.args.words.now (g.S.Shelf.state c.args.shelf.now) (g.S.Shelf.state c.load_job.new.shelf) (g.O.Sink.state c.args.out.now) (g.O.Sink.state c.args.out.now) s in
-    subst P (sym c.status_of_refusal.ensures) (refused c.in-Err.refusal c.in-Err.ensures.refused c.in-Err.ensures.keeps.files refl)
+    says_refused c.args.words.now _ _ _ _ c.status_of_refusal.result c.in-Err.refusal c.status_of_refusal.ensures c.in-Err.ensures.refused c.in-Err.ensures.keeps.files
 
 pub returns-in-None-clause-says : goal.returns-in-None-clause-says
-returns-in-None-clause-says g c = no_memory c.in-Ok.ensures.quiet refl
+returns-in-None-clause-says g c = no_memory c.in-Ok.ensures.quiet refl refl
 
 pub returns-in-Some-clause-says : goal.returns-in-Some-clause-says
 returns-in-Some-clause-says g c =
-    says_played c.args.words.now (g.S.Shelf.state c.args.shelf.now) (g.S.Shelf.state c.load_job.new.shelf) (g.S.Shelf.state c.play.new.shelf) (g.O.Sink.state c.args.out.now) (g.O.Sink.state c.play.new.out) c.play.result
+    says_played c.args.words.now (g.S.Shelf.state c.args.shelf.now) (g.S.Shelf.state c.load_job.new.shelf) (g.S.Shelf.state c.play.new.shelf) (g.O.Sink.state c.args.out.now) (g.O.Sink.state c.play.new.out) _ _ c.play.result
     c.in-Ok.job.board c.in-Some.ready.outputs (map (λ (core : AnyCore). (any_state core).view) c.in-Ok.job.cores.items) (record { links = c.in-Ok.job.inputs.links; uarts = c.in-Ok.job.inputs.uarts }) c.in-Some.ready.board
     c.in-Ok.ensures.ok c.in-Some.ensures.file c.in-Some.ensures.start c.in-Ok.ensures.quiet c.play.ensures.plays
 

@@ -1,7 +1,7 @@
 use Rattle.std.proofs.Common.{arith}
 use Rattle.ring_demo.proofs.Rings.{has_run}
 use Rattle.ring_demo.proofs.Tallies.{tally_of_journal}
-use Rattle.ring_demo.proofs.Starting.{can_run}
+use Rattle.exact_machine.proofs.Starting.{can_run}
 use Rattle.ring_demo.specs.Programs.{no_inputs, ring_views}
 use Rattle.ring_demo.specs.Ring.{ring_board}
 use Rattle.ring_demo.proofs.run.run_ring.Goals as goal

@@ -1,7 +1,7 @@
 use Rattle.std.proofs.Common.{subst, sym, ◌∙◌, ap, ℕ, List, refl, ◌&&◌}
 use Rattle.core_regs.specs.declared.registers.Arch.{Arch}
 use Rattle.core_regs.specs.State.{bare, written}
-use Rattle.isa_step.specs.Wants.{operands_of}
+use Rattle.isa_step.specs.Requests.{operands_of}
 use Rattle.timing_law.specs.Table.{depth_of}
 use Rattle.core_iface.proofs.Turns.{as_due, rests_keep}
 use Rattle.core_iface.specs.Ticks.{is_pending}

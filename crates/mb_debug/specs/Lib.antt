@@ -1,0 +1,4 @@
+pub mod Breaks
+pub mod Prints
+pub mod Scenes
+pub mod Scripts
