@@ -20,9 +20,10 @@ use Rattle.board_machine.specs.declared.events.Rest.{Rest}
 use Rattle.board_machine.specs.declared.events.RunEnd.TheVariants.{Rest as AtRest, CyclesSpent, JournalFull}
 use Rattle.uart_lite.specs.Machine.{SerialPort, cycled, sent}
 use Rattle.board_file.specs.declared.board.IntcRow.{IntcRow}
+use Rattle.board_file.specs.declared.board.TimerRow.{TimerRow}
 use Rattle.board_machine.specs.Places.{set_some, touch}
 use Rattle.board_machine.specs.Bus.{DeviceRows, Devices as DeviceSet, Serial, is_done, next_byte, place_after, serial_asked, serial_cycled}
-use Rattle.board_machine.specs.DeviceMoves.{devices_moved, edge_used, in_order, intc_moved, intc_moved_by, intcs_moved, is_of, is_turn, left_at, left_of, line_driven, line_change, timer_moved, timers_moved, uart_asked, uart_cycled, uart_moved, with_devices}
+use Rattle.board_machine.specs.DeviceMoves.{devices_moved, divides, edge_used, in_order, inputs_taken, intc_moved, intc_moved_by, intcs_moved, is_of, is_turn, left_at, left_of, line_driven, line_change, timer_cycled, timer_moved, timer_moved_by, timers_moved, uart_asked, uart_cycled, uart_moved, with_devices}
 use Rattle.board_machine.proofs.DeviceSteps.{order_keeps}
 use Rattle.board_machine.proofs.Alike.{rest_alike}
 use Rattle.board_machine.specs.Fabric.{Fabric, entered, entered_some, entry_of, breaks_come, host_moves, hopes_at, is_logged, move_by, move_of, part_at, moved, no_core, or_low, shown}
@@ -235,9 +236,21 @@ asked_done : (k : ℕ) (d : DeviceSet) (own : Bool) → StaysDone d (cond own (e
 asked_done k d false h = h
 asked_done k d true h = touch_by d.uarts k serial_asked (slice_get d.uarts k) refl (λ u h. h) h
 
-intc_done : (bus : DeviceRows) (k : ℕ) (o : Option IntcRow) (d : DeviceSet) → StaysDone d (intc_moved_by bus k o d)
-intc_done bus k None d h = h
-intc_done bus k (Some r) d h = order_done (uart_asked bus r.core) (λ k d. asked_done k d (is_of r.core (slice_get bus.uarts k))) (length bus.uarts) d h
+timer_turn_done : (k : ℕ) (turn : Bool) (d : DeviceSet) → StaysDone d (cond turn (timer_cycled k d) d)
+timer_turn_done k false d h = h
+timer_turn_done k true d h = h
+
+timer_done : (cycle k : ℕ) (o : Option TimerRow) (d : DeviceSet) → StaysDone d (timer_moved_by cycle k o d)
+timer_done cycle k None d h = h
+timer_done cycle k (Some r) d h = timer_turn_done k (divides r.clock cycle) d h
+
+intc_turn_done : (bus : DeviceRows) (core k : ℕ) (turn : Bool) (d : DeviceSet) → StaysDone d (cond turn (inputs_taken bus core k d) d)
+intc_turn_done bus core k false d h = h
+intc_turn_done bus core k true d h = order_done (uart_asked bus core) (λ k d. asked_done k d (is_of core (slice_get bus.uarts k))) (length bus.uarts) d h
+
+intc_done : (bus : DeviceRows) (cycle k : ℕ) (o : Option IntcRow) (d : DeviceSet) → StaysDone d (intc_moved_by bus cycle k o d)
+intc_done bus cycle k None d h = h
+intc_done bus cycle k (Some r) d h = intc_turn_done bus r.core k (divides r.clock cycle) d h
 
 order_rested : (move : ℕ → Fabric → Fabric) → ((k : ℕ) (f : Fabric) → KeepsDone f (move k f)) → (n : ℕ) (f : Fabric) → KeepsDone f (in_order move n f)
 order_rested move each n f = order_keeps KeepsDone move keep_same keep_then each n f
@@ -257,8 +270,8 @@ moved_rested f =
     let t = timers_moved f in
     let u = in_order uart_moved (length f.bus.uarts) t in
     keep_then f u (devices_moved f)
-    (keep_then f t u (devices_rested f t.devices (order_done timer_moved (λ k d h. h) (length f.bus.timers) f.devices)) (order_rested uart_moved (λ k f. uart_rested k f (is_turn f.cycle (slice_get f.bus.uarts k))) (length f.bus.uarts) t))
-    (devices_rested u (intcs_moved u).devices (order_done (intc_moved u.bus) (λ k d. intc_done u.bus k (slice_get u.bus.intcs k) d) (length u.bus.intcs) u.devices))
+    (keep_then f t u (devices_rested f t.devices (order_done (timer_moved f.bus f.cycle) (λ k d. timer_done f.cycle k (slice_get f.bus.timers k) d) (length f.bus.timers) f.devices)) (order_rested uart_moved (λ k f. uart_rested k f (is_turn f.cycle (slice_get f.bus.uarts k))) (length f.bus.uarts) t))
+    (devices_rested u (intcs_moved u).devices (order_done (intc_moved u.bus u.cycle) (λ k d. intc_done u.bus u.cycle k (slice_get u.bus.intcs k) d) (length u.bus.intcs) u.devices))
 
 done_rested : (cores : List CoreAt) (f : Fabric) → f.left ≡ [] → list_all is_done f.devices.uarts ≡ true → Rested f (devices_done cores f)
 unfolding devices_done KeepsDone

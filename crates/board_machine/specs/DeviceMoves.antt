@@ -1,5 +1,5 @@
 -- The step of the devices: breaks come, timers, UARTs and controllers move, and each core's line is latched.
-use Rattle.std.specs.Prelude.{ℕ, zero, suc, ◌^◌, ◌%◌, ◌==◌, ◌&&◌, Bool, true, false, if◌then◌else◌, List, length, Option, Some, None, slice_get, position, bit_or}
+use Rattle.std.specs.Prelude.{ℕ, zero, suc, ◌^◌, ◌*◌, ◌%◌, ◌==◌, ◌&&◌, Bool, true, false, if◌then◌else◌, List, length, Option, Some, None, slice_get, position, bit_or}
 use Rattle.board_file.specs.declared.board.IntcRow.{IntcRow}
 use Rattle.board_file.specs.declared.board.TimerRow.{TimerRow}
 use Rattle.board_file.specs.declared.board.UartRow.{UartRow}
@@ -22,13 +22,24 @@ in_order move (suc k) x = move k (in_order move k x)
 abbrev pub with_devices : Devices → Fabric → Fabric
 with_devices d f = record f { devices = d }
 
+-- a device moves in the cycles that its clock divides
+abbrev pub divides : ℕ → ℕ → Bool
+divides clock cycle = cycle % clock == 0
+
 -- timers
 
-abbrev pub timer_moved : ℕ → Devices → Devices
-timer_moved k d = record d { timers = touch timer.cycled k d.timers }
+abbrev pub timer_cycled : ℕ → Devices → Devices
+timer_cycled k d = record d { timers = touch timer.cycled k d.timers }
+
+abbrev pub timer_moved_by : ℕ → ℕ → Option TimerRow → Devices → Devices
+timer_moved_by cycle k None d = d
+timer_moved_by cycle k (Some r) d = if divides r.clock cycle then timer_cycled k d else d
+
+abbrev pub timer_moved : DeviceRows → ℕ → ℕ → Devices → Devices
+timer_moved bus cycle k d = timer_moved_by cycle k (slice_get bus.timers k) d
 
 abbrev pub timers_moved : Fabric → Fabric
-timers_moved f = with_devices (in_order timer_moved (length f.bus.timers) f.devices) f
+timers_moved f = with_devices (in_order (timer_moved f.bus f.cycle) (length f.bus.timers) f.devices) f
 
 -- UARTs
 
@@ -45,9 +56,9 @@ uart_cycled k d = record d { uarts = touch serial_cycled k d.uarts }
 
 abbrev pub is_turn : ℕ → Option UartRow → Bool
 is_turn cycle None = false
-is_turn cycle (Some r) = cycle % r.every == 0
+is_turn cycle (Some r) = divides (r.every * r.clock) cycle
 
--- a UART moves in each cycle that its row's `every` divides, and a byte that leaves is entered
+-- a UART moves in each cycle that its row's `every` times its clock divides, and a byte that leaves is entered
 abbrev pub uart_moved : ℕ → Fabric → Fabric
 uart_moved k f = if is_turn f.cycle (slice_get f.bus.uarts k) then entered_some no_core 0 (left_at k (slice_get f.devices.uarts k)) (with_devices (uart_cycled k f.devices) f) else f
 
@@ -92,15 +103,19 @@ abbrev pub intc_cycled : ℕ → ℕ → Devices → Devices
 intc_cycled inputs k d = record d { intcs = touch (intc.cycled inputs) k d.intcs }
 
 -- a controller takes its inputs in, and the edges of its core's UARTs are used up
-abbrev pub intc_moved_by : DeviceRows → ℕ → Option IntcRow → Devices → Devices
-intc_moved_by bus k None d = d
-intc_moved_by bus k (Some r) d = intc_cycled (inputs_of bus d r.core) k (in_order (uart_asked bus r.core) (length bus.uarts) d)
+abbrev pub inputs_taken : DeviceRows → ℕ → ℕ → Devices → Devices
+inputs_taken bus core k d = intc_cycled (inputs_of bus d core) k (in_order (uart_asked bus core) (length bus.uarts) d)
 
-abbrev pub intc_moved : DeviceRows → ℕ → Devices → Devices
-intc_moved bus k d = intc_moved_by bus k (slice_get bus.intcs k) d
+-- so an edge of a UART is held up to the next move of its core's controller
+abbrev pub intc_moved_by : DeviceRows → ℕ → ℕ → Option IntcRow → Devices → Devices
+intc_moved_by bus cycle k None d = d
+intc_moved_by bus cycle k (Some r) d = if divides r.clock cycle then inputs_taken bus r.core k d else d
+
+abbrev pub intc_moved : DeviceRows → ℕ → ℕ → Devices → Devices
+intc_moved bus cycle k d = intc_moved_by bus cycle k (slice_get bus.intcs k) d
 
 abbrev pub intcs_moved : Fabric → Fabric
-intcs_moved f = with_devices (in_order (intc_moved f.bus) (length f.bus.intcs) f.devices) f
+intcs_moved f = with_devices (in_order (intc_moved f.bus f.cycle) (length f.bus.intcs) f.devices) f
 
 -- lines
 

@@ -10,6 +10,7 @@ use Rattle.isa_step.specs.Effects.{Effect, Due, Does, Waits, Sleeps, Ends, Stops
 use Rattle.isa_step.specs.Due.{due}
 use Rattle.board_file.specs.declared.board.EventRow.{EventRow}
 use Rattle.board_file.specs.declared.board.IntcRow.{IntcRow}
+use Rattle.board_file.specs.declared.board.TimerRow.{TimerRow}
 use Rattle.board_file.specs.declared.board.LinkRow.{LinkRow}
 use Rattle.run_journal.specs.declared.entry.What.{What}
 use Rattle.run_journal.specs.declared.entry.What.TheVariants.{Got, Sent, HostSent, HostGot, Read, Took, Wait, Wrote}
@@ -19,7 +20,7 @@ use Rattle.board_machine.specs.declared.parts.Spot.{Spot}
 use Rattle.board_machine.specs.declared.parts.Spot.TheVariants.{Timer as AtTimer, Intc as AtIntc, Uart as AtUart}
 use Rattle.board_machine.specs.Places.{set_some, touch}
 use Rattle.board_machine.specs.Bus.{DeviceRows, Devices as DeviceSet, accessed_at, offset_in, spot_at}
-use Rattle.board_machine.specs.DeviceMoves.{devices_moved, edge_used, in_order, intc_moved, intc_moved_by, intcs_moved, is_of, is_turn, left_at, line_change, line_driven, timer_moved, timers_moved, uart_asked, uart_cycled, uart_moved, with_devices}
+use Rattle.board_machine.specs.DeviceMoves.{devices_moved, divides, edge_used, in_order, inputs_taken, intc_moved, intc_moved_by, intcs_moved, is_of, is_turn, left_at, line_change, line_driven, timer_cycled, timer_moved, timer_moved_by, timers_moved, uart_asked, uart_cycled, uart_moved, with_devices}
 use Rattle.board_machine.specs.Fabric.{Fabric, Feed, act_leaves, breaks_come, changed, devices_after, entered, entered_some, entries_of_action, entry_of_act, feeds_after, given, has_come, host_moves, is_logged, line_set, line_told, links_after, move_of, moved, no_core, or_low, pending_after, shown, waited}
 use Rattle.board_machine.specs.World.{CoreAt, Step, TickMay, World, acts_of, devices_done, line_latched}
 use Rattle.board_machine.proofs.DeviceSteps.{order_keeps}
@@ -90,20 +91,29 @@ after_counts bus core _ d = same_counts d
 order_counts : (move : ℕ → DeviceSet → DeviceSet) → ((k : ℕ) (d : DeviceSet) → SameCounts d (move k d)) → (n : ℕ) (d : DeviceSet) → SameCounts d (in_order move n d)
 order_counts move each n d = order_keeps SameCounts move same_counts counts_then each n d
 
-timer_counts : (k : ℕ) (d : DeviceSet) → SameCounts d (timer_moved k d)
-timer_counts k d = record { timers = touch_length _ k d.timers; intcs = refl; uarts = refl }
+timer_turn_counts : (k : ℕ) (turn : Bool) (d : DeviceSet) → SameCounts d (cond turn (timer_cycled k d) d)
+timer_turn_counts k false d = same_counts d
+timer_turn_counts k true d = record { timers = touch_length _ k d.timers; intcs = refl; uarts = refl }
+
+timer_counts : (cycle k : ℕ) (o : Option TimerRow) (d : DeviceSet) → SameCounts d (timer_moved_by cycle k o d)
+timer_counts cycle k None d = same_counts d
+timer_counts cycle k (Some r) d = timer_turn_counts k (divides r.clock cycle) d
 
 asked_counts : (k : ℕ) (d : DeviceSet) (own : Bool) → SameCounts d (cond own (edge_used k d) d)
 asked_counts k d true = record { timers = refl; intcs = refl; uarts = touch_length _ k d.uarts }
 asked_counts k d false = same_counts d
 
-intc_counts : (bus : DeviceRows) (k : ℕ) (o : Option IntcRow) (d : DeviceSet) → SameCounts d (intc_moved_by bus k o d)
-intc_counts bus k None d = same_counts d
-intc_counts bus k (Some r) d =
-    let e = in_order (uart_asked bus r.core) (length bus.uarts) d in
-    counts_then d e (intc_moved_by bus k (Some r) d)
-    (order_counts (uart_asked bus r.core) (λ j d. asked_counts j d (is_of r.core (slice_get bus.uarts j))) (length bus.uarts) d)
+intc_turn_counts : (bus : DeviceRows) (core k : ℕ) (turn : Bool) (d : DeviceSet) → SameCounts d (cond turn (inputs_taken bus core k d) d)
+intc_turn_counts bus core k false d = same_counts d
+intc_turn_counts bus core k true d =
+    let e = in_order (uart_asked bus core) (length bus.uarts) d in
+    counts_then d e (inputs_taken bus core k d)
+    (order_counts (uart_asked bus core) (λ j d. asked_counts j d (is_of core (slice_get bus.uarts j))) (length bus.uarts) d)
     (record { timers = refl; intcs = touch_length _ k e.intcs; uarts = refl })
+
+intc_counts : (bus : DeviceRows) (cycle k : ℕ) (o : Option IntcRow) (d : DeviceSet) → SameCounts d (intc_moved_by bus cycle k o d)
+intc_counts bus cycle k None d = same_counts d
+intc_counts bus cycle k (Some r) d = intc_turn_counts bus r.core k (divides r.clock cycle) d
 
 -- fabrics
 
@@ -176,9 +186,9 @@ moved_length f =
     let u = in_order uart_moved (length f.bus.uarts) t in
     twice f u (devices_moved f)
     (twice f t u
-    (devices_length f t.devices (order_counts timer_moved timer_counts (length f.bus.timers) f.devices))
+    (devices_length f t.devices (order_counts (timer_moved f.bus f.cycle) (λ k d. timer_counts f.cycle k (slice_get f.bus.timers k) d) (length f.bus.timers) f.devices))
     (order_length uart_moved (λ k f. uart_length k f (is_turn f.cycle (slice_get f.bus.uarts k))) (length f.bus.uarts) t))
-    (devices_length u (intcs_moved u).devices (order_counts (intc_moved u.bus) (λ k d. intc_counts u.bus k (slice_get u.bus.intcs k) d) (length u.bus.intcs) u.devices))
+    (devices_length u (intcs_moved u).devices (order_counts (intc_moved u.bus u.cycle) (λ k d. intc_counts u.bus u.cycle k (slice_get u.bus.intcs k) d) (length u.bus.intcs) u.devices))
 
 latch_length : (cores : List CoreAt) (core : ℕ) (f : Fabric) → SameLengths f (line_latched cores core f)
 latch_length cores core f = some_length core (acts_of (slice_get cores core)) (line_change (line_driven f core) (or_low (slice_get f.lines core))) f

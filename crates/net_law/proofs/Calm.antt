@@ -95,9 +95,9 @@ no_breaks_come f left e n = rw (e ∙ n) refl
 
 none_moved : (f : Fabric) → f.bus ≡ no_rows → devices_moved f ≡ f
 none_moved f e =
-    let timers : timers_moved f ≡ f = ap (λ (bus : DeviceRows). with_devices (in_order timer_moved (length bus.timers) f.devices) f) e in
+    let timers : timers_moved f ≡ f = ap (λ (bus : DeviceRows). with_devices (in_order (timer_moved bus f.cycle) (length bus.timers) f.devices) f) e in
     let uarts : in_order uart_moved (length f.bus.uarts) f ≡ f = ap (λ (bus : DeviceRows). in_order uart_moved (length bus.uarts) f) e in
-    let intcs : intcs_moved f ≡ f = ap (λ (bus : DeviceRows). with_devices (in_order (intc_moved bus) (length bus.intcs) f.devices) f) e in
+    let intcs : intcs_moved f ≡ f = ap (λ (bus : DeviceRows). with_devices (in_order (intc_moved bus f.cycle) (length bus.intcs) f.devices) f) e in
     ap (λ (g : Fabric). intcs_moved (in_order uart_moved (length f.bus.uarts) g)) timers ∙ ap intcs_moved uarts ∙ intcs
 
 latch_calm : (cores : List CoreAt) (core : ℕ) (f : Fabric) → Calm f → line_latched cores core f ≡ f
