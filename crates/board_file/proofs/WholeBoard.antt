@@ -10,7 +10,7 @@ use Rattle.board_file.specs.Bus.{sum_faults}
 use Rattle.board_file.specs.Faults.{fault_at, fault_unless, least}
 use Rattle.board_file.specs.Keys.{key_of, row_keys, tables}
 use Rattle.board_file.specs.Read.{file_at, file_in, key_code, number_at, number_in, right}
-use Rattle.board_file.specs.Rows.{IsBoardOf, board_of, core_at, core_row, end_made, event_row, from_end, intc_row, link_row, place_of, rows_by, timer_row, to_end, uart_row}
+use Rattle.board_file.specs.Rows.{IsBoardOf, board_of, core_at, core_row, device_clock, end_made, event_row, from_end, intc_row, link_row, place_of, rows_by, timer_row, to_end, uart_row}
 use Rattle.board_file.specs.Rules.{are_few, code_if, count_faults, count_members, each_row, has, is_end, is_link, is_network, key_faults, keys_faults, many_code, row_code, table_faults, top_faults}
 use Rattle.board_file.specs.Tree.{IsTomlOf, are_ascending, at_key, rows_in, table_place}
 use Rattle.board_file.specs.declared.board.BoardFile.{BoardFile}
@@ -68,7 +68,7 @@ timer_makes network tree cores h = record {
       let base = first_key tree _ ms key.Base _ _ refl core.1 in
       let c = needed_place tree cores key.Core (at_key key.Core ms) h core.0 in
       let b = needed_number tree key.Base quantity.Base (at_key key.Base ms) base.0 in
-      (record { name = name; core = c.0; base = b.0; irq = number_at quantity.Irq key.Irq ms }, rw (named, c.1, b.1) refl);
+      (record { name = name; core = c.0; base = b.0; irq = number_at quantity.Irq key.Irq ms; clock = device_clock ms }, rw (named, c.1, b.1) refl);
 }
 
 intc_makes : (network : Bool) (tree : Members) (cores : List CoreRow) → ArePlaced tree cores → Makes network tree rows.Intc (intc_row cores)
@@ -79,7 +79,7 @@ intc_makes network tree cores h = record {
       let base = first_key tree _ ms key.Base _ _ refl core.1 in
       let c = needed_place tree cores key.Core (at_key key.Core ms) h core.0 in
       let b = needed_number tree key.Base quantity.Base (at_key key.Base ms) base.0 in
-      (record { name = name; core = c.0; base = b.0 }, rw (named, c.1, b.1) refl);
+      (record { name = name; core = c.0; base = b.0; clock = device_clock ms }, rw (named, c.1, b.1) refl);
 }
 
 uart_makes : (network : Bool) (tree : Members) (cores : List CoreRow) → ArePlaced tree cores → Makes network tree rows.Uart (uart_row cores)
@@ -92,7 +92,7 @@ uart_makes network tree cores h = record {
       let c = needed_place tree cores key.Core (at_key key.Core ms) h core.0 in
       let b = needed_number tree key.Base quantity.Base (at_key key.Base ms) base.0 in
       let o = needed_file tree key.Output (at_key key.Output ms) output.0 in
-      (record { name = name; core = c.0; base = b.0; output = o.0; irq = number_at quantity.Irq key.Irq ms; input = file_at key.Input ms; every = unwrap_or (number_at quantity.Clock key.Every ms) 64 }, rw (named, c.1, b.1, o.1) refl);
+      (record { name = name; core = c.0; base = b.0; output = o.0; irq = number_at quantity.Irq key.Irq ms; input = file_at key.Input ms; every = unwrap_or (number_at quantity.Clock key.Every ms) 64; clock = device_clock ms }, rw (named, c.1, b.1, o.1) refl);
 }
 
 event_makes : (network : Bool) (tree : Members) (cores : List CoreRow) → ArePlaced tree cores → Makes network tree rows.Event (event_row cores)
