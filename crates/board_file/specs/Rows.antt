@@ -2,8 +2,8 @@
 use Rattle.std.specs.Prelude.{ℕ, Bool, false, ⊤, ◌≡◌, ◌==◌, ◌&&◌, nat_lt, List, [], ◌∷◌, ◌++◌, position, Option, Some, None, option_and_then, option_to_list, unwrap_or}
 use Rattle.std.specs.Str.{bytes_eq}
 use Rattle.toml.specs.Data.{Members, as_str, as_table, no_members, member}
-use Rattle.board_file.specs.Read.{break_in, file_at, name_of, number_at, only_if, pipeline_in, right, turn_in, version_in}
-use Rattle.board_file.specs.Rules.{is_network}
+use Rattle.board_file.specs.Read.{break_in, file_at, name_of, number_at, only_if, pipeline_in, right, turn_in}
+use Rattle.board_file.specs.Rules.{is_network, version_in_file}
 use Rattle.board_file.specs.Tree.{at_key, rows_in}
 use Rattle.board_file.specs.declared.board.BoardFile.{BoardFile}
 use Rattle.board_file.specs.declared.board.CoreRow.{CoreRow}
@@ -120,9 +120,6 @@ abbrev pub AreRows : {R : Type 0} → (List ℕ → Members → Option R) → Me
 AreRows means no_members [] = ⊤
 AreRows means (member name d ms) (row ∷ more) = (row_in means name (as_table d) ≡ Some row) × AreRows means ms more
 AreRows means _ _ = ⊥
-
-unfoldable pub version_in_file : Members → ℕ
-version_in_file tree = unwrap_or (right version_in (at_key key.Version tree)) 1
 
 unfoldable pub turn_in_file : Members → Turn
 turn_in_file tree = unwrap_or (right turn_in (at_key key.Order tree)) turns.Ascending

@@ -3,16 +3,14 @@ ghost use Rattle.std.specs.Prelude.{◌≡◌, ◌++◌, true, Some, None, Optio
 ghost use Rattle.std.specs.Str.{bytes_eq};
 ghost use Rattle.toml.specs.Data.{as_str, as_table, Members};
 ghost use Rattle.toml.specs.View.{view, table_view};
-ghost use Rattle.board_file.specs.Read.{break_in, file_at, name_of, number_at, only_if, pipeline_in, right, turn_in, version_in};
-ghost use Rattle.board_file.specs.Rows.{core_at, core_made, core_row, device_clock, end_made, event_made, event_row, from_end, intc_made, intc_row, link_made, link_row, place_of, row_in, rows_by, small, timer_made, timer_row, to_end, turn_in_file, uart_made, uart_row, version_in_file};
+ghost use Rattle.board_file.specs.Read.{break_in, file_at, name_of, number_at, only_if, pipeline_in, right, turn_in};
+ghost use Rattle.board_file.specs.Rows.{core_at, core_made, core_row, device_clock, end_made, event_made, event_row, from_end, intc_made, intc_row, link_made, link_row, place_of, row_in, rows_by, small, timer_made, timer_row, to_end, turn_in_file, uart_made, uart_row};
 ghost use Rattle.board_file.specs.Tree.{are_ascending, at_key, rows_in};
 ghost use Rattle.board_file.specs.declared.board.CoreRow.{CoreRow};
 
 use crate::board::{CoreRow, End, EventRow, IntcRow, LinkRow, Pipeline, TimerRow, Turn, UartRow};
 use crate::keys::{Key, Quantity, Rows};
-use crate::read::{
-    board_name, file_found, number_found, read_break, read_pipeline, read_turn, read_version,
-};
+use crate::read::{board_name, file_found, number_found, read_break, read_pipeline, read_turn};
 use crate::tree::{table_rows, value_at};
 use host_io::{FileName, Name, NoMemory};
 use std::alloc::Global;
@@ -353,12 +351,7 @@ impl Row for TimerRow {
     }
 }
 
-fn intc_of(
-    name: Option<Name>,
-    core: Option<u16>,
-    base: Option<u32>,
-    clock: u32,
-) -> Option<IntcRow>
+fn intc_of(name: Option<Name>, core: Option<u16>, base: Option<u32>, clock: u32) -> Option<IntcRow>
     ensures { result ≡ intc_made name core base clock }
 {
     Some(IntcRow {
@@ -458,17 +451,6 @@ impl Row for EventRow {
             number_found(Quantity::Cycle, members, Key::Cycle),
             break_found(members),
         )
-    }
-}
-
-/// The version of the file's format.
-#[tactic(auto, unfolding(crate::specs::Rows::version_in_file))]
-pub fn version_of(root: &Table) -> u8
-    ensures { result ≡ version_in_file (table_view root.now) }
-{
-    match value_at(root, Key::Version) {
-        Some(value) => read_version(value).unwrap_or(1),
-        None => 1,
     }
 }
 
