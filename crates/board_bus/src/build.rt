@@ -29,6 +29,7 @@ fn copied_timer(row: &TimerRow) -> TimerRow
         core: row.core,
         base: row.base,
         irq: row.irq,
+        clock: row.clock,
     }
 }
 
@@ -39,6 +40,7 @@ fn copied_intc(row: &IntcRow) -> IntcRow
         name: row.name.copied(),
         core: row.core,
         base: row.base,
+        clock: row.clock,
     }
 }
 
@@ -53,6 +55,7 @@ fn copied_uart(row: &UartRow) -> UartRow
         irq: row.irq,
         input: copied_name(&row.input),
         every: row.every,
+        clock: row.clock,
     }
 }
 

@@ -18,11 +18,13 @@ fn bus_of(alloc: Global, bytes: &[u8]) -> Result<Bus, Fail> {
         core: 0,
         base: TIMER,
         irq: Some(0),
+        clock: 1,
     }];
     let intcs = [IntcRow {
         name: Name::from_text("i").ok_or("a name")?,
         core: 0,
         base: INTC,
+        clock: 1,
     }];
     let uarts = [UartRow {
         name: Name::from_text("u").ok_or("a name")?,
@@ -32,6 +34,7 @@ fn bus_of(alloc: Global, bytes: &[u8]) -> Result<Bus, Fail> {
         irq: Some(1),
         input: FileName::from_text("in"),
         every: 2,
+        clock: 1,
     }];
     let inputs = [Blob::from_vec(Vec::from_slice(alloc, bytes)?)];
     Ok(

@@ -1,5 +1,5 @@
 -- The board of a tree without faults has each row of its tables.
-use Rattle.std.proofs.Common.{◌≡◌, ℕ, Bool, true, false, ◌&&◌, not, nat_le, List, [], ◌∷◌, ◌++◌, flat_map, Option, Some, None, option_and_then, unwrap_or, refl, sym, subst, arith}
+use Rattle.std.proofs.Common.{◌≡◌, ℕ, Bool, true, false, ◌&&◌, not, ◌==◌, nat_le, if◌then◌else◌, List, [], ◌∷◌, ◌++◌, flat_map, Option, Some, None, option_and_then, unwrap_or, refl, sym, subst, arith}
 use Rattle.std.specs.Option.{is_some}
 use Rattle.toml.specs.Data.{Data, Members, as_str}
 use Rattle.board_file.proofs.Least.{none_is_least}
@@ -10,8 +10,8 @@ use Rattle.board_file.specs.Bus.{sum_faults}
 use Rattle.board_file.specs.Faults.{fault_at, fault_unless, least}
 use Rattle.board_file.specs.Keys.{key_of, row_keys, tables}
 use Rattle.board_file.specs.Read.{file_at, file_in, key_code, number_at, number_in, right}
-use Rattle.board_file.specs.Rows.{IsBoardOf, board_of, core_at, core_row, end_made, event_row, from_end, intc_row, link_row, place_of, rows_by, timer_row, to_end, uart_row}
-use Rattle.board_file.specs.Rules.{are_few, code_if, count_faults, count_members, each_row, has, is_end, is_link, is_network, key_faults, keys_faults, many_code, row_code, table_faults, top_faults}
+use Rattle.board_file.specs.Rows.{IsBoardOf, board_of, core_at, core_row, device_clock, end_made, event_row, from_end, intc_row, link_row, place_of, rows_by, timer_row, to_end, uart_row}
+use Rattle.board_file.specs.Rules.{are_few, code_if, count_faults, count_members, each_row, has, is_end, is_link, is_network, key_faults, keys_faults, many_code, row_code, table_faults, top_faults, version_in_file}
 use Rattle.board_file.specs.Tree.{IsTomlOf, are_ascending, at_key, rows_in, table_place}
 use Rattle.board_file.specs.declared.board.BoardFile.{BoardFile}
 use Rattle.board_file.specs.declared.board.CoreRow.{CoreRow}
@@ -68,7 +68,7 @@ timer_makes network tree cores h = record {
       let base = first_key tree _ ms key.Base _ _ refl core.1 in
       let c = needed_place tree cores key.Core (at_key key.Core ms) h core.0 in
       let b = needed_number tree key.Base quantity.Base (at_key key.Base ms) base.0 in
-      (record { name = name; core = c.0; base = b.0; irq = number_at quantity.Irq key.Irq ms }, rw (named, c.1, b.1) refl);
+      (record { name = name; core = c.0; base = b.0; irq = number_at quantity.Irq key.Irq ms; clock = device_clock ms }, rw (named, c.1, b.1) refl);
 }
 
 intc_makes : (network : Bool) (tree : Members) (cores : List CoreRow) → ArePlaced tree cores → Makes network tree rows.Intc (intc_row cores)
@@ -79,7 +79,7 @@ intc_makes network tree cores h = record {
       let base = first_key tree _ ms key.Base _ _ refl core.1 in
       let c = needed_place tree cores key.Core (at_key key.Core ms) h core.0 in
       let b = needed_number tree key.Base quantity.Base (at_key key.Base ms) base.0 in
-      (record { name = name; core = c.0; base = b.0 }, rw (named, c.1, b.1) refl);
+      (record { name = name; core = c.0; base = b.0; clock = device_clock ms }, rw (named, c.1, b.1) refl);
 }
 
 uart_makes : (network : Bool) (tree : Members) (cores : List CoreRow) → ArePlaced tree cores → Makes network tree rows.Uart (uart_row cores)
@@ -92,7 +92,7 @@ uart_makes network tree cores h = record {
       let c = needed_place tree cores key.Core (at_key key.Core ms) h core.0 in
       let b = needed_number tree key.Base quantity.Base (at_key key.Base ms) base.0 in
       let o = needed_file tree key.Output (at_key key.Output ms) output.0 in
-      (record { name = name; core = c.0; base = b.0; output = o.0; irq = number_at quantity.Irq key.Irq ms; input = file_at key.Input ms; every = unwrap_or (number_at quantity.Clock key.Every ms) 64 }, rw (named, c.1, b.1, o.1) refl);
+      (record { name = name; core = c.0; base = b.0; output = o.0; irq = number_at quantity.Irq key.Irq ms; input = file_at key.Input ms; every = unwrap_or (number_at quantity.Clock key.Every ms) 64; clock = device_clock ms }, rw (named, c.1, b.1, o.1) refl);
 }
 
 event_makes : (network : Bool) (tree : Members) (cores : List CoreRow) → ArePlaced tree cores → Makes network tree rows.Event (event_row cores)
@@ -155,10 +155,10 @@ link_makes network tree cores h = record {
 }
 
 -- each table of a tree without faults has none
-table_rows_right : (tree : Members) (r : Rows) → table_faults tree r ≡ [] → (each_row (is_network tree) tree r (rows_in tree r) ≡ []) × (are_few r (count_members (rows_in tree r)) ≡ true)
+table_rows_right : (tree : Members) (r : Rows) → table_faults tree r ≡ [] → (each_row (is_network tree) tree r (rows_in tree r) ≡ []) × (are_few (version_in_file tree) r (count_members (rows_in tree r)) ≡ true)
 unfolding table_faults count_faults
 table_rows_right tree r e =
-    let parts = both_nil (each_row (is_network tree) tree r (rows_in tree r)) (fault_unless (are_few r (count_members (rows_in tree r))) (many_code r) (table_place r)) e in
+    let parts = both_nil (each_row (is_network tree) tree r (rows_in tree r)) (fault_unless (are_few (version_in_file tree) r (count_members (rows_in tree r))) (many_code r) (table_place r)) e in
     (parts.0, true_from_nil _ _ _ parts.1)
 
 record TablesRight (tree : Members) : Type 0 where
@@ -190,9 +190,13 @@ all_tables_right tree e =
     let f = both_nil (top_faults tree) (flat_map (table_faults tree) tables) d.0 in
     each_table tree f.1
 
-few_cores : (n : ℕ) → are_few rows.Core n ≡ true → nat_le n 16 ≡ true
+few_by : (second : Bool) (n : ℕ) → nat_le n (if second then 64 else 16) ≡ true → nat_le n 64 ≡ true
+few_by true n e = e
+few_by false n e = grind arith
+
+few_cores : (version n : ℕ) → are_few version rows.Core n ≡ true → nat_le n 64 ≡ true
 unfolding are_few
-few_cores n e = e
+few_cores version n e = few_by (version == 2) n e
 
 pub board_is_whole : (tree : Members) → faults tree ≡ [] → IsBoardOf tree (board_of tree)
 unfolding board_of
@@ -202,7 +206,7 @@ board_is_whole tree e =
     let core = table_rows_right tree rows.Core t.core in
     let cores = rows_by (core_row []) (rows_in tree rows.Core) in
     let are = all_rows network tree rows.Core (core_row []) (core_makes network tree) (rows_in tree rows.Core) core.0 in
-    let placed = cores_placed tree cores are (few_cores _ core.1) in
+    let placed = cores_placed tree cores are (few_cores _ _ core.1) in
     record {
       version = refl;
       turn = refl;

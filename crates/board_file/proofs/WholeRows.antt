@@ -12,7 +12,7 @@ use Rattle.board_file.specs.Faults.{fault_at, fault_unless}
 use Rattle.board_file.specs.Keys.{row_keys}
 use Rattle.board_file.specs.Read.{is_board_name, name_of, only_if}
 use Rattle.board_file.specs.Rows.{AreRows, core_made, core_row, place_of, row_in, rows_by, small}
-use Rattle.board_file.specs.Rules.{count_members, each_row, inner_faults, keys_faults, row_code, row_faults, stray_faults, value_faults}
+use Rattle.board_file.specs.Rules.{count_members, each_row, inner_faults, keys_faults, row_code, row_faults, stray_faults, value_faults, version_in_file}
 use Rattle.board_file.specs.Tree.{has_core, inside, row_place, rows_in}
 use Rattle.board_file.specs.declared.board.CoreRow.{CoreRow}
 use Rattle.board_file.specs.declared.board.Pipeline.{Pipeline}
@@ -25,15 +25,16 @@ pub record IsRight (network : Bool) (tree : Members) (r : Rows) (name : List ℕ
   pub named : is_board_name name ≡ true
   pub members : Members
   pub is_table : as_table d ≡ Some members
-  pub keys : keys_faults tree (inside (row_place r name)) members (row_keys r) ≡ []
+  pub keys : keys_faults tree (inside (row_place r name)) members (row_keys (version_in_file tree) r) ≡ []
   pub code : row_code network r members ≡ None
 
 right_table : (network : Bool) (tree : Members) (r : Rows) (name : List ℕ) (ms : Members) → is_board_name name ≡ true → inner_faults network tree r (row_place r name) ms ≡ [] → IsRight network tree r name (table ms)
 unfolding inner_faults
 right_table network tree r name ms named e =
     let at = row_place r name in
-    let front = both_nil (keys_faults tree (inside at) ms (row_keys r) ++ stray_faults (inside at) (row_keys r) ms) (fault_at (row_code network r ms) at) e in
-    let keys = both_nil (keys_faults tree (inside at) ms (row_keys r)) (stray_faults (inside at) (row_keys r) ms) front.0 in
+    let rules = row_keys (version_in_file tree) r in
+    let front = both_nil (keys_faults tree (inside at) ms rules ++ stray_faults (inside at) rules ms) (fault_at (row_code network r ms) at) e in
+    let keys = both_nil (keys_faults tree (inside at) ms rules) (stray_faults (inside at) rules ms) front.0 in
     record { named = named; members = ms; is_table = refl; keys = keys.0; code = none_from_nil (row_code network r ms) at front.1 }
 
 right_value : (network : Bool) (tree : Members) (r : Rows) (name : List ℕ) (d : Data) → is_board_name name ≡ true → value_faults network tree r (row_place r name) d ≡ [] → IsRight network tree r name d
@@ -48,7 +49,7 @@ right_row network tree r name d e =
 
 -- how a row is made of a table that is right
 pub record Makes {R : Type 0} (network : Bool) (tree : Members) (r : Rows) (means : List ℕ → Members → Option R) : Type 0 where
-  pub made : (name : List ℕ) (ms : Members) → is_board_name name ≡ true → keys_faults tree (inside (row_place r name)) ms (row_keys r) ≡ [] → row_code network r ms ≡ None → (row : R) × (means name ms ≡ Some row)
+  pub made : (name : List ℕ) (ms : Members) → is_board_name name ≡ true → keys_faults tree (inside (row_place r name)) ms (row_keys (version_in_file tree) r) ≡ [] → row_code network r ms ≡ None → (row : R) × (means name ms ≡ Some row)
 
 one_row : {R : Type 0} (network : Bool) (tree : Members) (r : Rows) (means : List ℕ → Members → Option R) → Makes network tree r means → (name : List ℕ) (d : Data) → IsRight network tree r name d → (row : R) × (row_in means name (as_table d) ≡ Some row)
 one_row network tree r means how name d h =
@@ -130,14 +131,14 @@ before_end p (core ∷ cores) e =
 pub record ArePlaced (tree : Members) (cores : List CoreRow) : Type 0 where
   pub placed : (s : List ℕ) → has_core tree s ≡ true → (k : ℕ) × (place_of cores s ≡ Some k)
 
-place_below : (at n : ℕ) → at < n → n ≤ 16 → option_and_then small (cond (nat_lt at n) (Some at) None) ≡ Some at
+place_below : (at n : ℕ) → at < n → n ≤ 64 → option_and_then small (cond (nat_lt at n) (Some at) None) ≡ Some at
 place_below at n below few = grind arith
 
-pub cores_placed : (tree : Members) (cores : List CoreRow) → AreRows (core_row []) (rows_in tree rows.Core) cores → nat_le (count_members (rows_in tree rows.Core)) 16 ≡ true → ArePlaced tree cores
+pub cores_placed : (tree : Members) (cores : List CoreRow) → AreRows (core_row []) (rows_in tree rows.Core) cores → nat_le (count_members (rows_in tree rows.Core)) 64 ≡ true → ArePlaced tree cores
 unfolding has_core
 cores_placed tree cores h few =
     let count = same_count (core_row []) (rows_in tree rows.Core) cores h in
-    let short : length cores ≤ 16 = grind (arith, count, few) in
+    let short : length cores ≤ 64 = grind (arith, count, few) in
     record {
       placed = λ s there.
           let below = before_end (λ core. bytes_eq s core.name) cores (some_core s (rows_in tree rows.Core) cores h there) in

@@ -1,5 +1,5 @@
 -- The tables of a board file and their keys.
-use Rattle.std.specs.Prelude.{ℕ, List, [], ◌∷◌, codes}
+use Rattle.std.specs.Prelude.{ℕ, ◌==◌, List, [], ◌∷◌, ◌++◌, if◌then◌else◌, codes}
 use Rattle.board_file.specs.declared.keys.Key.{Key}
 use Rattle.board_file.specs.declared.keys.Key.TheVariants as key
 use Rattle.board_file.specs.declared.keys.KeyRule.{KeyRule}
@@ -69,15 +69,19 @@ top_keys =
     May key.Event kind.Rows ∷
     []
 
--- the keys of the rows of each table
-unfoldable pub row_keys : Rows → List KeyRule
-row_keys rows.Core =
+-- a device has a clock of its own from version 2 on
+abbrev pub clock_keys : ℕ → List KeyRule
+clock_keys version = if version == 2 then May key.Clock (kind.Number quantity.Clock) ∷ [] else []
+
+-- the keys of the rows of each table in a version of the format
+unfoldable pub row_keys : ℕ → Rows → List KeyRule
+row_keys version rows.Core =
     Needs key.Image kind.File ∷
     Needs key.Pipeline kind.PipelineName ∷
     May key.Clock (kind.Number quantity.Clock) ∷
     May key.Memory (kind.Number quantity.Memory) ∷
     []
-row_keys rows.Link =
+row_keys version rows.Link =
     May key.Depth (kind.Number quantity.Depth) ∷
     May key.From kind.CoreName ∷
     May key.FromPort (kind.Number quantity.Port) ∷
@@ -86,24 +90,24 @@ row_keys rows.Link =
     May key.ToPort (kind.Number quantity.Port) ∷
     May key.ToFile kind.File ∷
     []
-row_keys rows.Timer =
-    Needs key.Core kind.CoreName ∷
+row_keys version rows.Timer =
+    (Needs key.Core kind.CoreName ∷
     Needs key.Base (kind.Number quantity.Base) ∷
     May key.Irq (kind.Number quantity.Irq) ∷
-    []
-row_keys rows.Intc =
-    Needs key.Core kind.CoreName ∷
+    []) ++ clock_keys version
+row_keys version rows.Intc =
+    (Needs key.Core kind.CoreName ∷
     Needs key.Base (kind.Number quantity.Base) ∷
-    []
-row_keys rows.Uart =
-    Needs key.Core kind.CoreName ∷
+    []) ++ clock_keys version
+row_keys version rows.Uart =
+    (Needs key.Core kind.CoreName ∷
     Needs key.Base (kind.Number quantity.Base) ∷
     Needs key.Output kind.File ∷
     May key.Irq (kind.Number quantity.Irq) ∷
     May key.Input kind.File ∷
     May key.Every (kind.Number quantity.Clock) ∷
-    []
-row_keys rows.Event =
+    []) ++ clock_keys version
+row_keys version rows.Event =
     Needs key.Core kind.CoreName ∷
     Needs key.Cycle (kind.Number quantity.Cycle) ∷
     Needs key.Kind kind.BreakName ∷

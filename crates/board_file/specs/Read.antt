@@ -78,7 +78,7 @@ abbrev pub break_of : List ℕ → Option Bool
 break_of s = if bytes_eq s (codes "nonmaskable") then Some true else if bytes_eq s (codes "break") then Some false else None
 
 abbrev pub version_of : ℤ → Option ℕ
-version_of (pos n) = only_if (n == 1) n
+version_of (pos n) = if n == 1 then Some 1 else if n == 2 then Some 2 else None
 version_of _ = None
 
 -- the fault of a value of another kind is its type, and this is the fault of one of the kind that isn't right

@@ -2,8 +2,8 @@
 use Rattle.std.specs.Prelude.{ℕ, Bool, false, ⊤, ◌≡◌, ◌==◌, ◌&&◌, nat_lt, List, [], ◌∷◌, ◌++◌, position, Option, Some, None, option_and_then, option_to_list, unwrap_or}
 use Rattle.std.specs.Str.{bytes_eq}
 use Rattle.toml.specs.Data.{Members, as_str, as_table, no_members, member}
-use Rattle.board_file.specs.Read.{break_in, file_at, name_of, number_at, only_if, pipeline_in, right, turn_in, version_in}
-use Rattle.board_file.specs.Rules.{is_network}
+use Rattle.board_file.specs.Read.{break_in, file_at, name_of, number_at, only_if, pipeline_in, right, turn_in}
+use Rattle.board_file.specs.Rules.{is_network, version_in_file}
 use Rattle.board_file.specs.Tree.{at_key, rows_in}
 use Rattle.board_file.specs.declared.board.BoardFile.{BoardFile}
 use Rattle.board_file.specs.declared.board.CoreRow.{CoreRow}
@@ -67,29 +67,37 @@ link_made _ _ _ _ = None
 unfoldable pub link_row : List CoreRow → List ℕ → Members → Option LinkRow
 link_row cores name ms = link_made (name_of name) (unwrap_or (number_at quantity.Depth key.Depth ms) 16) (from_end cores ms) (to_end cores ms)
 
-abbrev pub timer_made : Option (List ℕ) → Option ℕ → Option ℕ → Option ℕ → Option TimerRow
-timer_made (Some name) (Some core) (Some base) irq = Some (record { name = name; core = core; base = base; irq = irq })
-timer_made _ _ _ _ = None
+-- the clock of a device, which is 1 where the file doesn't say
+unfoldable pub device_clock : Members → ℕ
+device_clock ms = unwrap_or (number_at quantity.Clock key.Clock ms) 1
+
+abbrev pub timer_made : Option (List ℕ) → Option ℕ → Option ℕ → Option ℕ → ℕ → Option TimerRow
+timer_made (Some name) (Some core) (Some base) irq clock = Some (record { name = name; core = core; base = base; irq = irq; clock = clock })
+timer_made _ _ _ _ _ = None
 
 unfoldable pub timer_row : List CoreRow → List ℕ → Members → Option TimerRow
-timer_row cores name ms = timer_made (name_of name) (core_at cores key.Core ms) (number_at quantity.Base key.Base ms) (number_at quantity.Irq key.Irq ms)
+timer_row cores name ms =
+    timer_made (name_of name) (core_at cores key.Core ms) (number_at quantity.Base key.Base ms) (number_at quantity.Irq key.Irq ms)
+    (device_clock ms)
 
-abbrev pub intc_made : Option (List ℕ) → Option ℕ → Option ℕ → Option IntcRow
-intc_made (Some name) (Some core) (Some base) = Some (record { name = name; core = core; base = base })
-intc_made _ _ _ = None
+abbrev pub intc_made : Option (List ℕ) → Option ℕ → Option ℕ → ℕ → Option IntcRow
+intc_made (Some name) (Some core) (Some base) clock = Some (record { name = name; core = core; base = base; clock = clock })
+intc_made _ _ _ _ = None
 
 unfoldable pub intc_row : List CoreRow → List ℕ → Members → Option IntcRow
-intc_row cores name ms = intc_made (name_of name) (core_at cores key.Core ms) (number_at quantity.Base key.Base ms)
+intc_row cores name ms = intc_made (name_of name) (core_at cores key.Core ms) (number_at quantity.Base key.Base ms) (device_clock ms)
 
--- a UART; it moves in each 64th cycle where the file doesn't say
-abbrev pub uart_made : Option (List ℕ) → Option ℕ → Option ℕ → Option (List ℕ) → Option ℕ → Option (List ℕ) → ℕ → Option UartRow
-uart_made (Some name) (Some core) (Some base) (Some output) irq input every = Some (record { name = name; core = core; base = base; output = output; irq = irq; input = input; every = every })
-uart_made _ _ _ _ _ _ _ = None
+-- a UART; its `every` is 64 where the file doesn't say
+abbrev pub uart_made : Option (List ℕ) → Option ℕ → Option ℕ → Option (List ℕ) → Option ℕ → Option (List ℕ) → ℕ → ℕ → Option UartRow
+uart_made (Some name) (Some core) (Some base) (Some output) irq input every clock =
+    Some (record { name = name; core = core; base = base; output = output; irq = irq; input = input; every = every; clock = clock })
+uart_made _ _ _ _ _ _ _ _ = None
 
 unfoldable pub uart_row : List CoreRow → List ℕ → Members → Option UartRow
 uart_row cores name ms =
     uart_made (name_of name) (core_at cores key.Core ms) (number_at quantity.Base key.Base ms) (file_at key.Output ms)
     (number_at quantity.Irq key.Irq ms) (file_at key.Input ms) (unwrap_or (number_at quantity.Clock key.Every ms) 64)
+    (device_clock ms)
 
 abbrev pub event_made : Option (List ℕ) → Option ℕ → Option ℕ → Option Bool → Option EventRow
 event_made (Some name) (Some core) (Some cycle) (Some nonmaskable) = Some (record { name = name; core = core; cycle = cycle; nonmaskable = nonmaskable })
@@ -112,9 +120,6 @@ abbrev pub AreRows : {R : Type 0} → (List ℕ → Members → Option R) → Me
 AreRows means no_members [] = ⊤
 AreRows means (member name d ms) (row ∷ more) = (row_in means name (as_table d) ≡ Some row) × AreRows means ms more
 AreRows means _ _ = ⊥
-
-unfoldable pub version_in_file : Members → ℕ
-version_in_file tree = unwrap_or (right version_in (at_key key.Version tree)) 1
 
 unfoldable pub turn_in_file : Members → Turn
 turn_in_file tree = unwrap_or (right turn_in (at_key key.Order tree)) turns.Ascending

@@ -5,7 +5,7 @@ use Rattle.std.specs.Str.{bytes_eq}
 use Rattle.toml.specs.Data.{Data, Members, table, as_table, no_members, member}
 use Rattle.board_file.specs.Faults.{fault, fault_at, fault_unless}
 use Rattle.board_file.specs.Keys.{key_of, key_text, row_keys, top_keys}
-use Rattle.board_file.specs.Read.{flag_in, is_board_name, key_code, right}
+use Rattle.board_file.specs.Read.{flag_in, is_board_name, key_code, right, version_in}
 use Rattle.board_file.specs.Tree.{at_key, further, inside, row_place, rows_in, table_place}
 use Rattle.board_file.specs.declared.fault.BoardRule.{BoardRule}
 use Rattle.board_file.specs.declared.fault.BoardRule.TheVariants as broken
@@ -54,11 +54,15 @@ row_code network rows.Link ms = code_if (not (is_link ms)) broken.BadLink
 row_code network rows.Event ms = code_if network broken.EventOnNetwork
 row_code network _ ms = code_if network broken.DeviceOnNetwork
 
+-- the version of the file's format
+unfoldable pub version_in_file : Members → ℕ
+version_in_file tree = unwrap_or (right version_in (at_key key.Version tree)) 1
+
 -- one row: its name, its keys, and whether it may stand
 unfoldable pub inner_faults : Bool → Members → Rows → List ℕ → Members → List Fault
 inner_faults network tree r at ms =
-    keys_faults tree (inside at) ms (row_keys r)
-    ++ stray_faults (inside at) (row_keys r) ms
+    keys_faults tree (inside at) ms (row_keys (version_in_file tree) r)
+    ++ stray_faults (inside at) (row_keys (version_in_file tree) r) ms
     ++ fault_at (row_code network r ms) at
 
 abbrev pub value_faults : Bool → Members → Rows → List ℕ → Data → List Fault
@@ -76,14 +80,21 @@ abbrev pub count_members : Members → ℕ
 count_members no_members = 0
 count_members (member text d ms) = 1 + count_members ms
 
--- the most rows that a table may have, and the code of more
-unfoldable pub are_few : Rows → ℕ → Bool
-are_few rows.Core n = nat_le n 16
-are_few rows.Link n = nat_le n 64
-are_few rows.Timer n = nat_le n 64
-are_few rows.Uart n = nat_le n 64
-are_few rows.Event n = nat_le n 256
-are_few rows.Intc n = true
+-- the most cores and links of a board
+abbrev pub most_cores : ℕ → ℕ
+most_cores version = if version == 2 then 64 else 16
+
+abbrev pub most_links : ℕ → ℕ
+most_links version = if version == 2 then 256 else 64
+
+-- whether a table of a file has no more rows than it may, and the code of more
+unfoldable pub are_few : ℕ → Rows → ℕ → Bool
+are_few version rows.Core n = nat_le n (most_cores version)
+are_few version rows.Link n = nat_le n (most_links version)
+are_few version rows.Timer n = nat_le n 64
+are_few version rows.Uart n = nat_le n 64
+are_few version rows.Event n = nat_le n 256
+are_few version rows.Intc n = true
 
 unfoldable pub many_code : Rows → BoardRule
 many_code rows.Core = broken.TooManyCores
@@ -91,7 +102,7 @@ many_code rows.Link = broken.TooManyLinks
 many_code _ = broken.BadValue
 
 unfoldable pub count_faults : Members → Rows → List Fault
-count_faults tree r = fault_unless (are_few r (count_members (rows_in tree r))) (many_code r) (table_place r)
+count_faults tree r = fault_unless (are_few (version_in_file tree) r (count_members (rows_in tree r))) (many_code r) (table_place r)
 
 unfoldable pub is_network : Members → Bool
 is_network tree = unwrap_or (right flag_in (at_key key.Network tree)) false

@@ -74,6 +74,8 @@ pub struct TimerRow {
     pub base: u32,
     /// Its input of the core's interrupt controller, 0 to 31.
     pub irq: Option<u8>,
+    /// It moves in each cycle that this divides, 1 to 1,000,000.
+    pub clock: u32,
 }
 
 /// An interrupt controller on the bus of a core.
@@ -85,6 +87,8 @@ pub struct IntcRow {
     pub core: u16,
     /// The address of its first register.
     pub base: u32,
+    /// It moves in each cycle that this divides, 1 to 1,000,000.
+    pub clock: u32,
 }
 
 /// A UART on the bus of a core.
@@ -102,8 +106,10 @@ pub struct UartRow {
     pub irq: Option<u8>,
     /// The file of the bytes that reach it.
     pub input: Option<FileName>,
-    /// It moves a byte in each cycle that this divides, 1 to 1,000,000.
+    /// It moves a byte in each cycle that this times its clock divides, 1 to 1,000,000.
     pub every: u32,
+    /// What multiplies `every`, 1 to 1,000,000.
+    pub clock: u32,
 }
 
 /// A break that a core is given.

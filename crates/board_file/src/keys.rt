@@ -1,5 +1,5 @@
 //! The tables of a board file and their keys.
-ghost use Rattle.std.specs.Prelude.{◌≡◌};
+ghost use Rattle.std.specs.Prelude.{◌≡◌, ◌==◌, if◌then◌else◌};
 ghost use Rattle.board_file.specs.Keys.{key_of, key_text, row_keys, table_key, tables, top_keys};
 
 use KeyRule::{May, Needs};
@@ -39,7 +39,7 @@ pub enum Key {
 /// A kind of number that has limits of its own.
 #[derive(Clone, Copy, Debug)]
 pub enum Quantity {
-    /// A core or a UART has its turn in each cycle that this divides.
+    /// A core or a device has its turn in each cycle that this divides.
     Clock,
     /// The number of a cycle.
     Cycle,
@@ -131,9 +131,22 @@ static TIMER_KEYS: [KeyRule; 3] = [
     May(Key::Irq, Kind::Number(Quantity::Irq)),
 ];
 
+static CLOCKED_TIMER_KEYS: [KeyRule; 4] = [
+    Needs(Key::Core, Kind::CoreName),
+    Needs(Key::Base, Kind::Number(Quantity::Base)),
+    May(Key::Irq, Kind::Number(Quantity::Irq)),
+    May(Key::Clock, Kind::Number(Quantity::Clock)),
+];
+
 static INTC_KEYS: [KeyRule; 2] = [
     Needs(Key::Core, Kind::CoreName),
     Needs(Key::Base, Kind::Number(Quantity::Base)),
+];
+
+static CLOCKED_INTC_KEYS: [KeyRule; 3] = [
+    Needs(Key::Core, Kind::CoreName),
+    Needs(Key::Base, Kind::Number(Quantity::Base)),
+    May(Key::Clock, Kind::Number(Quantity::Clock)),
 ];
 
 static UART_KEYS: [KeyRule; 6] = [
@@ -143,6 +156,16 @@ static UART_KEYS: [KeyRule; 6] = [
     May(Key::Irq, Kind::Number(Quantity::Irq)),
     May(Key::Input, Kind::File),
     May(Key::Every, Kind::Number(Quantity::Clock)),
+];
+
+static CLOCKED_UART_KEYS: [KeyRule; 7] = [
+    Needs(Key::Core, Kind::CoreName),
+    Needs(Key::Base, Kind::Number(Quantity::Base)),
+    Needs(Key::Output, Kind::File),
+    May(Key::Irq, Kind::Number(Quantity::Irq)),
+    May(Key::Input, Kind::File),
+    May(Key::Every, Kind::Number(Quantity::Clock)),
+    May(Key::Clock, Kind::Number(Quantity::Clock)),
 ];
 
 static EVENT_KEYS: [KeyRule; 3] = [
@@ -165,6 +188,17 @@ pub fn keys_of_file() -> &'static [KeyRule]
     ensures { result.now ≡ top_keys }
 {
     &TOP_KEYS
+}
+
+/// The keys of a device, which has a clock of its own from version 2 on.
+fn keys_of_version(
+    version: u8,
+    keys: &'static [KeyRule],
+    clocked: &'static [KeyRule],
+) -> &'static [KeyRule]
+    ensures { result.now ≡ (if version == 2 then clocked.now else keys.now) }
+{
+    if version == 2 { clocked } else { keys }
 }
 
 impl KeyRule {
@@ -195,17 +229,17 @@ impl Rows {
         }
     }
 
-    /// The keys of each row.
+    /// The keys of each row in a version of the format.
     #[tactic(auto, unfolding(crate::specs::Keys::row_keys))]
-    pub fn keys(self) -> &'static [KeyRule]
-        ensures { result.now ≡ row_keys self }
+    pub fn keys(self, version: u8) -> &'static [KeyRule]
+        ensures { result.now ≡ row_keys version self }
     {
         match self {
             Rows::Core => &CORE_KEYS,
             Rows::Link => &LINK_KEYS,
-            Rows::Timer => &TIMER_KEYS,
-            Rows::Intc => &INTC_KEYS,
-            Rows::Uart => &UART_KEYS,
+            Rows::Timer => keys_of_version(version, &TIMER_KEYS, &CLOCKED_TIMER_KEYS),
+            Rows::Intc => keys_of_version(version, &INTC_KEYS, &CLOCKED_INTC_KEYS),
+            Rows::Uart => keys_of_version(version, &UART_KEYS, &CLOCKED_UART_KEYS),
             Rows::Event => &EVENT_KEYS,
         }
     }

@@ -204,7 +204,13 @@ pub fn read_break(value: &Value) -> Result<bool, BoardRule>
 fn known_version(number: i64) -> Option<u8>
     ensures { result ≡ version_of number }
 {
-    if number == 1 { Some(1) } else { None }
+    if number == 1 {
+        return Some(1);
+    }
+    if number == 2 {
+        return Some(2);
+    }
+    None
 }
 
 /// A version of the format; `UnknownVersion` for any other value.

@@ -19,8 +19,8 @@ use crate::claims::{
 use crate::fault::{BoardFault, BoardRule, Fault};
 use crate::keys::{Rows, all_tables};
 use crate::list::RowList;
-use crate::rows::{read_rows, turn_of, version_of};
-use crate::rules::{check_table, check_top, requested_network};
+use crate::rows::{read_rows, turn_of};
+use crate::rules::{check_table, check_top, requested_network, version_of};
 use host_io::{NoMemory, Place};
 use std::alloc::Global;
 use toml::Table;

@@ -3,16 +3,14 @@ ghost use Rattle.std.specs.Prelude.{◌≡◌, ◌++◌, true, Some, None, Optio
 ghost use Rattle.std.specs.Str.{bytes_eq};
 ghost use Rattle.toml.specs.Data.{as_str, as_table, Members};
 ghost use Rattle.toml.specs.View.{view, table_view};
-ghost use Rattle.board_file.specs.Read.{break_in, file_at, name_of, number_at, only_if, pipeline_in, right, turn_in, version_in};
-ghost use Rattle.board_file.specs.Rows.{core_at, core_made, core_row, end_made, event_made, event_row, from_end, intc_made, intc_row, link_made, link_row, place_of, row_in, rows_by, small, timer_made, timer_row, to_end, turn_in_file, uart_made, uart_row, version_in_file};
+ghost use Rattle.board_file.specs.Read.{break_in, file_at, name_of, number_at, only_if, pipeline_in, right, turn_in};
+ghost use Rattle.board_file.specs.Rows.{core_at, core_made, core_row, device_clock, end_made, event_made, event_row, from_end, intc_made, intc_row, link_made, link_row, place_of, row_in, rows_by, small, timer_made, timer_row, to_end, turn_in_file, uart_made, uart_row};
 ghost use Rattle.board_file.specs.Tree.{are_ascending, at_key, rows_in};
 ghost use Rattle.board_file.specs.declared.board.CoreRow.{CoreRow};
 
 use crate::board::{CoreRow, End, EventRow, IntcRow, LinkRow, Pipeline, TimerRow, Turn, UartRow};
 use crate::keys::{Key, Quantity, Rows};
-use crate::read::{
-    board_name, file_found, number_found, read_break, read_pipeline, read_turn, read_version,
-};
+use crate::read::{board_name, file_found, number_found, read_break, read_pipeline, read_turn};
 use crate::tree::{table_rows, value_at};
 use host_io::{FileName, Name, NoMemory};
 use std::alloc::Global;
@@ -145,6 +143,14 @@ fn clock_found(members: &Table, key: Key, default: u32) -> u32
         Some(number) => number as u32,
         None => default,
     }
+}
+
+/// The clock of a device, or 1.
+#[tactic(auto, unfolding(crate::specs::Rows::device_clock))]
+fn device_clock_found(members: &Table) -> u32
+    ensures { result ≡ device_clock (table_view members.now) }
+{
+    clock_found(members, Key::Clock, 1)
 }
 
 /// The bytes of a core's memory, or 65,536.
@@ -315,14 +321,16 @@ fn timer_of(
     core: Option<u16>,
     base: Option<u32>,
     irq: Option<u8>,
+    clock: u32,
 ) -> Option<TimerRow>
-    ensures { result ≡ timer_made name core base irq }
+    ensures { result ≡ timer_made name core base irq clock }
 {
     Some(TimerRow {
         name: name?,
         core: core?,
         base: base?,
         irq,
+        clock,
     })
 }
 
@@ -338,17 +346,19 @@ impl Row for TimerRow {
             core_found(cores, Key::Core, members),
             base_found(members),
             irq_found(members),
+            device_clock_found(members),
         )
     }
 }
 
-fn intc_of(name: Option<Name>, core: Option<u16>, base: Option<u32>) -> Option<IntcRow>
-    ensures { result ≡ intc_made name core base }
+fn intc_of(name: Option<Name>, core: Option<u16>, base: Option<u32>, clock: u32) -> Option<IntcRow>
+    ensures { result ≡ intc_made name core base clock }
 {
     Some(IntcRow {
         name: name?,
         core: core?,
         base: base?,
+        clock,
     })
 }
 
@@ -363,6 +373,7 @@ impl Row for IntcRow {
             board_name(name),
             core_found(cores, Key::Core, members),
             base_found(members),
+            device_clock_found(members),
         )
     }
 }
@@ -375,8 +386,9 @@ fn uart_of(
     irq: Option<u8>,
     input: Option<FileName>,
     every: u32,
+    clock: u32,
 ) -> Option<UartRow>
-    ensures { result ≡ uart_made name core base output irq input every }
+    ensures { result ≡ uart_made name core base output irq input every clock }
 {
     Some(UartRow {
         name: name?,
@@ -386,6 +398,7 @@ fn uart_of(
         irq,
         input,
         every,
+        clock,
     })
 }
 
@@ -404,6 +417,7 @@ impl Row for UartRow {
             irq_found(members),
             file_found(members, Key::Input),
             clock_found(members, Key::Every, 64),
+            device_clock_found(members),
         )
     }
 }
@@ -437,17 +451,6 @@ impl Row for EventRow {
             number_found(Quantity::Cycle, members, Key::Cycle),
             break_found(members),
         )
-    }
-}
-
-/// The version of the file's format.
-#[tactic(auto, unfolding(crate::specs::Rows::version_in_file))]
-pub fn version_of(root: &Table) -> u8
-    ensures { result ≡ version_in_file (table_view root.now) }
-{
-    match value_at(root, Key::Version) {
-        Some(value) => read_version(value).unwrap_or(1),
-        None => 1,
     }
 }
 

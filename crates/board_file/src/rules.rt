@@ -4,13 +4,13 @@ ghost use Rattle.toml.specs.Data.{no_members};
 ghost use Rattle.toml.specs.View.{view, table_view};
 ghost use Rattle.board_file.specs.Faults.{fault, fault_at, fault_unless, least_after, lesser};
 ghost use Rattle.board_file.specs.Keys.{key_of, key_text, row_keys, table_key, tables, top_keys};
-ghost use Rattle.board_file.specs.Read.{flag_in, is_board_name, key_code, right};
-ghost use Rattle.board_file.specs.Rules.{are_few, code_if, count_faults, count_members, each_row, has, inner_faults, is_empty, is_empty_table, is_end, is_known, is_link, is_network, key_faults, keys_faults, many_code, row_code, row_faults, stray_faults, table_faults, top_faults, value_faults};
+ghost use Rattle.board_file.specs.Read.{flag_in, is_board_name, key_code, right, version_in};
+ghost use Rattle.board_file.specs.Rules.{are_few, code_if, count_faults, count_members, each_row, has, inner_faults, is_empty, is_empty_table, is_end, is_known, is_link, is_network, key_faults, keys_faults, many_code, row_code, row_faults, most_cores, most_links, stray_faults, table_faults, top_faults, value_faults, version_in_file};
 ghost use Rattle.board_file.specs.Tree.{at_key, row_place, rows_in, table_place};
 
 use crate::fault::{BoardRule, Fault, offer, offer_some, offer_unless};
 use crate::keys::{Key, KeyRule, Rows, keys_of_file};
-use crate::read::{is_board_name, key_fault, read_flag};
+use crate::read::{is_board_name, key_fault, read_flag, read_version};
 use crate::tree::{inside_of, place_of_row, place_of_table, table_rows, value_at};
 use host_io::Place;
 use toml::{Table, Value};
@@ -128,8 +128,9 @@ fn check_inner(
     ensures { best.new ≡ least_after best.old (inner_faults network (table_view root.now) rows at (table_view members.now)) }
 {
     let before = inside_of(&at);
-    check_keys(root, &before, members, rows.keys(), best);
-    check_strays(&before, rows.keys(), members, best);
+    let keys = rows.keys(version_of(root));
+    check_keys(root, &before, members, keys, best);
+    check_strays(&before, keys, members, best);
     offer_some(best, row_fault(network, rows, members), at);
 }
 
@@ -200,13 +201,36 @@ pub fn requested_network(root: &Table) -> bool
     }
 }
 
+/// The version of the file's format.
+#[tactic(auto, unfolding(crate::specs::Rules::version_in_file))]
+pub fn version_of(root: &Table) -> u8
+    ensures { result ≡ version_in_file (table_view root.now) }
+{
+    match value_at(root, Key::Version) {
+        Some(value) => read_version(value).unwrap_or(1),
+        None => 1,
+    }
+}
+
+fn cores_limit(version: u8) -> usize
+    ensures { result ≡ most_cores version }
+{
+    if version == 2 { 64 } else { 16 }
+}
+
+fn links_limit(version: u8) -> usize
+    ensures { result ≡ most_links version }
+{
+    if version == 2 { 256 } else { 64 }
+}
+
 #[tactic(auto, unfolding(crate::specs::Rules::are_few))]
-fn is_few(rows: Rows, number: usize) -> bool
-    ensures { result ≡ are_few rows number }
+fn is_few(version: u8, rows: Rows, number: usize) -> bool
+    ensures { result ≡ are_few version rows number }
 {
     match rows {
-        Rows::Core => number <= 16,
-        Rows::Link => number <= 64,
+        Rows::Core => number <= cores_limit(version),
+        Rows::Link => number <= links_limit(version),
         Rows::Timer => number <= 64,
         Rows::Uart => number <= 64,
         Rows::Event => number <= 256,
@@ -240,7 +264,8 @@ fn rows_number(members: Option<&Table>) -> usize
 fn check_count(root: &Table, rows: Rows, best: &mut Option<Fault>)
     ensures { best.new ≡ least_after best.old (count_faults (table_view root.now) rows) }
 {
-    let few = is_few(rows, rows_number(table_rows(root, rows)));
+    let number = rows_number(table_rows(root, rows));
+    let few = is_few(version_of(root), rows, number);
     offer_unless(best, few, fault_of_many(rows), place_of_table(rows));
 }
 

@@ -57,13 +57,13 @@ fn whole_files(rt: HostRuntime) -> Result<(), Fail> {
             ("version = 9223372036854775808\n", 601, ""),
             ("", 602, "version"),
             ("version = 0\n", 602, "version"),
-            ("version = 2\n", 602, "version"),
             ("version = 3\n", 602, "version"),
             ("version = '1'\n", 602, "version"),
             ("version = 1.0\n", 602, "version"),
             ("version = [1]\n", 602, "version"),
             ("zz = 1\n", 602, "version"),
             ("version = 1\n", 604, "core"),
+            ("version = 2\n", 604, "core"),
             ("version = 1\n[core]\n", 604, "core"),
             ("version = 1\ncore = 5\n", 605, "core"),
             ("version = 1\ncore.a = 5\n", 605, "core.a"),
@@ -810,34 +810,116 @@ fn the_least_of_two(rt: HostRuntime) -> Result<(), Fail> {
 #[test]
 fn limits_of_cores_and_links(rt: HostRuntime) -> Result<(), Fail> {
     let alloc = rt.alloc();
-    for (rows, code, place) in [(16_u8, 0, ""), (17, 615, "core")] {
-        let mut text = String::from_str(alloc, "version = 1\n")?;
+    for (version, rows, code, place) in [
+        (1_u8, 16_u8, 0, ""),
+        (1, 17, 615, "core"),
+        (2, 17, 0, ""),
+        (2, 64, 0, ""),
+        (2, 65, 615, "core"),
+    ] {
+        let mut text = String::new(alloc);
+        write!(text, "version = {version}\n")?;
         for k in 0..rows {
             write!(text, "core.c{k} = {{image = 'i', pipeline = 'plain'}}\n")?;
         }
         assert!(rt;
             is_answered(alloc, text.as_bytes(), code, place),
-            "{rows} cores"
+            "{rows} cores in version {version}"
         );
     }
-    for (rows, code, place) in [(64_u8, 0, ""), (65, 616, "link")] {
-        let mut text = String::from_str(alloc, "version = 1\n")?;
-        for k in 0..5_u8 {
+    for (version, rows, code, place) in [
+        (1_u8, 64_u16, 0, ""),
+        (1, 65, 616, "link"),
+        (2, 65, 0, ""),
+        (2, 256, 0, ""),
+        (2, 257, 616, "link"),
+    ] {
+        let mut text = String::new(alloc);
+        write!(text, "version = {version}\n")?;
+        for k in 0..16_u8 {
             write!(text, "core.c{k} = {{image = 'i', pipeline = 'plain'}}\n")?;
         }
         for k in 0..rows {
-            let core = k / 16;
+            // each get port of the cores, and then a put port
+            let core = k % 256 / 16;
             let port = k % 16;
-            write!(
-                text,
-                "link.l{k} = {{from_file = 'f', to = 'c{core}', to_port = {port}}}\n"
-            )?;
+            let way = if k < 256 {
+                "from_file = 'f', to"
+            } else {
+                "to_file = 'o', from"
+            };
+            let end = if k < 256 { "to_port" } else { "from_port" };
+            write!(text, "link.l{k} = {{{way} = 'c{core}', {end} = {port}}}\n")?;
         }
         assert!(rt;
             is_answered(alloc, text.as_bytes(), code, place),
-            "{rows} links"
+            "{rows} links in version {version}"
         );
     }
+    Ok(())
+}
+
+/// What stands before a table of devices in version 2.
+const SECOND: &str = "version = 2\ncore.a.image = 'i'\ncore.a.pipeline = 'plain'\n";
+
+#[test]
+fn clocks_of_devices(rt: HostRuntime) -> Result<(), Fail> {
+    let wrong = first_wrong(
+        rt.alloc(),
+        SECOND,
+        &[
+            ("timer.t = {core = 'a', base = 65536}\n", 0, ""),
+            ("timer.t = {core = 'a', base = 65536, clock = 1}\n", 0, ""),
+            (
+                "timer.t = {core = 'a', base = 65536, clock = 1000000}\n",
+                0,
+                "",
+            ),
+            (
+                "timer.t = {core = 'a', base = 65536, clock = 0}\n",
+                606,
+                "timer.t.clock",
+            ),
+            (
+                "timer.t = {core = 'a', base = 65536, clock = 1000001}\n",
+                606,
+                "timer.t.clock",
+            ),
+            (
+                "timer.t = {core = 'a', base = 65536, clock = '1'}\n",
+                605,
+                "timer.t.clock",
+            ),
+            ("intc.n = {core = 'a', base = 65536, clock = 5}\n", 0, ""),
+            (
+                "intc.n = {core = 'a', base = 65536, clock = -1}\n",
+                606,
+                "intc.n.clock",
+            ),
+            (
+                "uart.u = {core = 'a', base = 65536, output = 'o', clock = 5}\n",
+                0,
+                "",
+            ),
+            (
+                "uart.u = {core = 'a', base = 65536, output = 'o', every = 1000000, clock = 1000000}\n",
+                0,
+                "",
+            ),
+            (
+                "uart.u = {core = 'a', base = 65536, output = 'o', clock = true}\n",
+                605,
+                "uart.u.clock",
+            ),
+            ("link.x.clock = 1\n", 603, "link.x.clock"),
+            (
+                "event.e = {core = 'a', cycle = 1, kind = 'break', clock = 1}\n",
+                603,
+                "event.e.clock",
+            ),
+        ],
+    )?;
+    assert_eq!(rt; wrong, None);
     Ok(())
 }
 
@@ -940,11 +1022,14 @@ fn defaults_and_order(rt: HostRuntime) -> Result<(), Fail> {
     assert!(rt; is_port(&links[2].from, 2, 1) && is_file(&links[2].to, "out"));
     assert!(rt; links[0].depth == 16 && links[0].name.as_text() == "x");
     let timer = board.timers.get(0).expect(&rt, "a timer");
-    assert!(rt; timer.core == 3 && timer.base == 69_632 && timer.irq == None);
+    assert!(rt; timer.core == 3 && timer.base == 69_632 && timer.irq == None && timer.clock == 1);
     let intc = board.intcs.get(0).expect(&rt, "a controller");
     assert!(rt; intc.core == 3 && intc.base == 65_536 && board.intcs.get(1).is_none());
+    assert_eq!(rt; intc.clock, 1);
     let uart = board.uarts.get(0).expect(&rt, "a uart");
-    assert!(rt; uart.core == 1 && uart.base == 1_073_741_824 && uart.every == 64);
+    assert!(rt;
+        uart.core == 1 && uart.base == 1_073_741_824 && uart.every == 64 && uart.clock == 1
+    );
     assert!(rt; uart.output.as_text() == "u" && uart.input.is_none() && uart.irq == None);
     let event = board.events.get(0).expect(&rt, "an event");
     assert!(rt; event.core == 3 && event.cycle == 7 && !event.nonmaskable);
@@ -977,6 +1062,26 @@ fn given_values(rt: HostRuntime) -> Result<(), Fail> {
         "version = 1\nnetwork = true\norder = 'descending'\ncore.a = {image = 'i', pipeline = 'plain'}\n";
     let board = board_of(rt.alloc(), network).expect(&rt, "a right board");
     assert!(rt; board.network && board.turn == Turn::Descending);
+    Ok(())
+}
+
+#[test]
+fn given_clocks(rt: HostRuntime) -> Result<(), Fail> {
+    let text = "version = 2\n\
+        core.a = {image = 'i', pipeline = 'plain'}\n\
+        intc.n = {core = 'a', base = 65536, clock = 4}\n\
+        timer.t = {core = 'a', base = 69632, clock = 3}\n\
+        timer.u = {core = 'a', base = 73728}\n\
+        uart.u = {core = 'a', base = 77824, output = 'u', every = 5, clock = 7}\n";
+    let board = board_of(rt.alloc(), text).expect(&rt, "a right board");
+    assert_eq!(rt; board.version, 2);
+    let timers = board.timers.as_slice();
+    assert_eq!(rt; timers.len(), 2);
+    assert!(rt; timers[0].clock == 3 && timers[1].clock == 1);
+    let intc = board.intcs.get(0).expect(&rt, "a controller");
+    assert_eq!(rt; intc.clock, 4);
+    let uart = board.uarts.get(0).expect(&rt, "a uart");
+    assert!(rt; uart.every == 5 && uart.clock == 7);
     Ok(())
 }
 

@@ -99,20 +99,20 @@ from_file : (cores : List CoreRow) (name : List ℕ) (ms : Members) (link : Link
 unfolding link_row from_end
 from_file cores name ms link file e is = let made = made_link _ _ _ _ link e in file_made _ _ _ file (rw is at made.from)
 
-made_uart : (name : Option (List ℕ)) (core base : Option ℕ) (output : Option (List ℕ)) (irq : Option ℕ) (input : Option (List ℕ)) (every : ℕ) (uart : UartRow) → uart_made name core base output irq input every ≡ Some uart → (output ≡ Some uart.output) × (input ≡ uart.input)
-made_uart (Some n) (Some c) (Some b) (Some o) irq input every uart e = (grind arith, grind arith)
-made_uart None core base output irq input every uart e = grind arith
-made_uart (Some n) None base output irq input every uart e = grind arith
-made_uart (Some n) (Some c) None output irq input every uart e = grind arith
-made_uart (Some n) (Some c) (Some b) None irq input every uart e = grind arith
+made_uart : (name : Option (List ℕ)) (core base : Option ℕ) (output : Option (List ℕ)) (irq : Option ℕ) (input : Option (List ℕ)) (every clock : ℕ) (uart : UartRow) → uart_made name core base output irq input every clock ≡ Some uart → (output ≡ Some uart.output) × (input ≡ uart.input)
+made_uart (Some n) (Some c) (Some b) (Some o) irq input every clock uart e = (grind arith, grind arith)
+made_uart None core base output irq input every clock uart e = grind arith
+made_uart (Some n) None base output irq input every clock uart e = grind arith
+made_uart (Some n) (Some c) None output irq input every clock uart e = grind arith
+made_uart (Some n) (Some c) (Some b) None irq input every clock uart e = grind arith
 
 uart_to : (cores : List CoreRow) (name : List ℕ) (ms : Members) (uart : UartRow) → uart_row cores name ms ≡ Some uart → file_at key.Output ms ≡ Some uart.output
 unfolding uart_row
-uart_to cores name ms uart e = (made_uart _ _ _ _ _ _ _ uart e).0
+uart_to cores name ms uart e = (made_uart _ _ _ _ _ _ _ _ uart e).0
 
 uart_from : (cores : List CoreRow) (name : List ℕ) (ms : Members) (uart : UartRow) → uart_row cores name ms ≡ Some uart → file_at key.Input ms ≡ uart.input
 unfolding uart_row
-uart_from cores name ms uart e = (made_uart _ _ _ _ _ _ _ uart e).1
+uart_from cores name ms uart e = (made_uart _ _ _ _ _ _ _ _ uart e).1
 
 output_claimed : (tree : Members) (cores : List CoreRow) (j : ℕ) (link : LinkRow) (o : IsFrom (link_row cores) (rows_in tree rows.Link) j link) (file : List ℕ) → link.to ≡ File file
     → IsAmong (claim_on true (key_place rows.Link o.name key.ToFile) file) (file_claims tree)

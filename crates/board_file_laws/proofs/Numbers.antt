@@ -141,29 +141,29 @@ turn_default : is_number quantity.Clock 64 ≡ true
 unfolding is_number
 turn_default = refl
 
-made_timer : (name : Option (List ℕ)) (core base irq : Option ℕ) (timer : TimerRow) → timer_made name core base irq ≡ Some timer → irq ≡ timer.irq
-made_timer (Some n) (Some c) (Some b) irq timer e = grind arith
-made_timer None c b irq timer e = grind arith
-made_timer (Some n) None b irq timer e = grind arith
-made_timer (Some n) (Some c) None irq timer e = grind arith
+made_timer : (name : Option (List ℕ)) (core base irq : Option ℕ) (clock : ℕ) (timer : TimerRow) → timer_made name core base irq clock ≡ Some timer → (irq ≡ timer.irq) × (clock ≡ timer.clock)
+made_timer (Some n) (Some c) (Some b) irq clock timer e = (grind arith, grind arith)
+made_timer None c b irq clock timer e = grind arith
+made_timer (Some n) None b irq clock timer e = grind arith
+made_timer (Some n) (Some c) None irq clock timer e = grind arith
 
 pub timer_input : (cores : List CoreRow) (name : List ℕ) (ms : Members) (timer : TimerRow) → timer_row cores name ms ≡ Some timer → IsInput timer.irq
 unfolding timer_row
-timer_input cores name ms timer e = input_there ms timer.irq (made_timer _ _ _ _ timer e)
+timer_input cores name ms timer e = input_there ms timer.irq (made_timer _ _ _ _ _ timer e).0
 
-made_uart : (name : Option (List ℕ)) (core base : Option ℕ) (output : Option (List ℕ)) (irq : Option ℕ) (input : Option (List ℕ)) (every : ℕ) (uart : UartRow) → uart_made name core base output irq input every ≡ Some uart → (irq ≡ uart.irq) × (every ≡ uart.every)
-made_uart (Some n) (Some c) (Some b) (Some o) irq input every uart e = (grind arith, grind arith)
-made_uart None c b o irq input every uart e = grind arith
-made_uart (Some n) None b o irq input every uart e = grind arith
-made_uart (Some n) (Some c) None o irq input every uart e = grind arith
-made_uart (Some n) (Some c) (Some b) None irq input every uart e = grind arith
+made_uart : (name : Option (List ℕ)) (core base : Option ℕ) (output : Option (List ℕ)) (irq : Option ℕ) (input : Option (List ℕ)) (every clock : ℕ) (uart : UartRow) → uart_made name core base output irq input every clock ≡ Some uart → (irq ≡ uart.irq) × (every ≡ uart.every) × (clock ≡ uart.clock)
+made_uart (Some n) (Some c) (Some b) (Some o) irq input every clock uart e = (grind arith, grind arith, grind arith)
+made_uart None c b o irq input every clock uart e = grind arith
+made_uart (Some n) None b o irq input every clock uart e = grind arith
+made_uart (Some n) (Some c) None o irq input every clock uart e = grind arith
+made_uart (Some n) (Some c) (Some b) None irq input every clock uart e = grind arith
 
 pub uart_input : (cores : List CoreRow) (name : List ℕ) (ms : Members) (uart : UartRow) → uart_row cores name ms ≡ Some uart → IsInput uart.irq
 unfolding uart_row
-uart_input cores name ms uart e = input_there ms uart.irq (made_uart _ _ _ _ _ _ _ uart e).0
+uart_input cores name ms uart e = input_there ms uart.irq (made_uart _ _ _ _ _ _ _ _ uart e).0
 
 pub uart_turn : (cores : List CoreRow) (name : List ℕ) (ms : Members) (uart : UartRow) → uart_row cores name ms ≡ Some uart → IsClock uart.every
 unfolding uart_row
 uart_turn cores name ms uart e =
-    let made = made_uart _ _ _ _ _ _ _ uart e in
+    let made = made_uart _ _ _ _ _ _ _ _ uart e in
     clock_range uart.every (rw made.1 at (number_or quantity.Clock key.Every ms 64 turn_default))

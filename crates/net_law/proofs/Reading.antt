@@ -8,7 +8,7 @@ use Rattle.board_file.specs.Bus.{sum_faults}
 use Rattle.board_file.specs.Faults.{fault_at}
 use Rattle.board_file.specs.Keys.{row_keys, tables}
 use Rattle.board_file.specs.Rows.{AreRows}
-use Rattle.board_file.specs.Rules.{count_faults, each_row, inner_faults, is_network, keys_faults, row_code, row_faults, stray_faults, table_faults, top_faults, value_faults}
+use Rattle.board_file.specs.Rules.{count_faults, each_row, inner_faults, is_network, keys_faults, row_code, row_faults, stray_faults, table_faults, top_faults, value_faults, version_in_file}
 use Rattle.board_file.specs.Tree.{inside, row_place, rows_in}
 use Rattle.board_file.specs.declared.keys.Rows.{Rows}
 use Rattle.board_file.specs.declared.keys.Rows.TheVariants as rows
@@ -21,7 +21,7 @@ IsBanned r = (ms : Members) → is_some (row_code true r ms) ≡ true
 banned_inner : (tree : Members) (r : Rows) (at : List ℕ) (ms : Members) → IsBanned r → inner_faults true tree r at ms ≡ [] → ⊥
 unfolding inner_faults
 banned_inner tree r at ms banned e =
-    let last = both_nil (keys_faults tree (inside at) ms (row_keys r) ++ stray_faults (inside at) (row_keys r) ms) (fault_at (row_code true r ms) at) e in
+    let last = both_nil (keys_faults tree (inside at) ms (row_keys (version_in_file tree) r) ++ stray_faults (inside at) (row_keys (version_in_file tree) r) ms) (fault_at (row_code true r ms) at) e in
     let none : is_some (row_code true r ms) ≡ false = rw (none_from_nil (row_code true r ms) at last.1) refl in
     let z : true ≡ false = sym (banned ms) ∙ none in
     cc
