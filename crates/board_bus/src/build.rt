@@ -164,8 +164,9 @@ impl Bus {
         uarts: &[UartRow],
         inputs: &[Blob],
     ) -> Result<Bus, NoMemory>
-        requires timers { (k : _) (row : _) → slice_get timers.now k ≡ Some row → IfSome row.irq (λ n. n < 32) }
-        requires uarts { (k : _) (row : _) → slice_get uarts.now k ≡ Some row → IfSome row.irq (λ n. n < 32) × (1 ≤ row.every) }
+        requires timers { (k : _) (row : _) → slice_get timers.now k ≡ Some row → IfSome row.irq (λ n. n < 32) × (1 ≤ row.clock) }
+        requires intcs { (k : _) (row : _) → slice_get intcs.now k ≡ Some row → 1 ≤ row.clock }
+        requires uarts { (k : _) (row : _) → slice_get uarts.now k ≡ Some row → IfSome row.irq (λ n. n < 32) × (1 ≤ row.every) × (1 ≤ row.clock) }
         requires few { length uarts.now ≤ 65535 }
         ensures { IfOk result (λ b. b ≡ record {
           rows = record { timers = timers.now; intcs = intcs.now; uarts = uarts.now };

@@ -39,7 +39,8 @@ impl Model for Bus {
     ghost invariant = { λ b. (length b.timers.items ≡ length b.timer_rows.items) × (length b.intcs.items ≡ length b.intc_rows.items)
         × (length b.uarts.items ≡ length b.uart_rows.items) × (length b.uart_rows.items ≤ 65535)
         × All (λ r. IfSome r.irq (λ n. n < 32)) b.timer_rows.items × All (λ r. IfSome r.irq (λ n. n < 32)) b.uart_rows.items
-        × All (λ r. 0 < r.every) b.uart_rows.items };
+        × All (λ r. 0 < r.clock) b.timer_rows.items × All (λ r. 0 < r.clock) b.intc_rows.items
+        × All (λ r. (0 < r.every) × (0 < r.clock)) b.uart_rows.items };
 }
 
 /// Whether an address is in the window of a device that stands on this core's bus from this base on.

@@ -1,8 +1,8 @@
 //! The moves of the devices in a cycle.
-ghost use Rattle.std.specs.Prelude.{◌≡◌, ◌==◌, ◌%◌, ◌<◌, length, slice_get, position, IfSome, ◌≤◌};
+ghost use Rattle.std.specs.Prelude.{◌≡◌, ◌*◌, ◌<◌, length, slice_get, position, IfSome, ◌≤◌};
 ghost use Rattle.std.specs.List.{list_all, list_any};
 ghost use Rattle.board_machine.specs.Bus.{is_done};
-ghost use Rattle.board_machine.specs.DeviceMoves.{controller, edge_used, in_order, input_bit, inputs_of, intc_cycled, intc_moved, intc_moved_by, is_of, is_turn, left_at, left_of, output_of, timer_input, timer_inputs, timer_moved, uart_asked, uart_cycled, uart_input, uart_inputs};
+ghost use Rattle.board_machine.specs.DeviceMoves.{controller, divides, edge_used, in_order, input_bit, inputs_of, inputs_taken, intc_cycled, intc_moved, intc_moved_by, is_of, is_turn, left_at, left_of, output_of, timer_cycled, timer_input, timer_inputs, timer_moved, timer_moved_by, uart_asked, uart_cycled, uart_input, uart_inputs};
 ghost use Rattle.board_machine.specs.Fabric.{is_on};
 ghost use Rattle.uart_lite.specs.Machine.{leaving};
 
@@ -20,31 +20,39 @@ pub(crate) fn input_bit(high: bool, irq: Option<u8>) -> u32
     }
 }
 
-/// Whether a UART that moves in each cycle that this number divides moves in this cycle.
-fn divides(every: u32, cycle: u64) -> bool
-    requires { 0 < every }
-    ensures { result ≡ (cycle % every == 0) }
+/// Whether a device that moves in each cycle that this number divides moves in this cycle.
+fn divides(clock: u64, cycle: u64) -> bool
+    requires { 0 < clock }
+    ensures { result ≡ divides clock cycle }
 {
-    // Most UARTs move in each cycle, and a division is dear.
-    every == 1 || cycle % every as u64 == 0
+    // Most devices move in each cycle, and a division is dear.
+    clock == 1 || cycle % clock == 0
+}
+
+/// The cycles from one turn of a UART to the next.
+fn turn_length(every: u32, clock: u32) -> u64
+    ensures { result ≡ every * clock }
+{
+    every as u64 * clock as u64
 }
 
 impl Bus {
-    /// A cycle of each timer.
-    pub fn move_timers(&mut self)
-        ensures { self.new ≡ record (self.old) { devices = in_order timer_moved (length self.old.rows.timers) self.old.devices } }
+    /// Each timer whose clock divides the cycle moves.
+    pub fn move_timers(&mut self, cycle: u64)
+        ensures { self.new ≡ record (self.old) { devices = in_order (timer_moved self.old.rows cycle) (length self.old.rows.timers) self.old.devices } }
     {
         for k in 0..self.timer_rows.len() {
-            self.move_timer(k);
+            self.move_timer(k, cycle);
         }
     }
 
-    /// A cycle of a timer.
-    fn move_timer(&mut self, k: usize)
+    fn move_timer(&mut self, k: usize, cycle: u64)
         requires { k < length self.old.rows.timers }
-        ensures { self.new ≡ record (self.old) { devices = timer_moved k self.old.devices } }
+        ensures { self.new ≡ record (self.old) { devices = timer_moved self.old.rows cycle k self.old.devices } }
     {
-        self.timers[k].cycle();
+        if divides(self.timer_rows[k].clock as u64, cycle) {
+            self.timers[k].cycle();
+        }
     }
 
     /// Whether it is a UART's turn in a cycle.
@@ -52,7 +60,7 @@ impl Bus {
         ensures { result ≡ is_turn cycle (slice_get self.now.rows.uarts k) }
     {
         match self.uart_rows.get(k) {
-            Some(row) => divides(row.every, cycle),
+            Some(row) => divides(turn_length(row.every, row.clock), cycle),
             None => false,
         }
     }
@@ -135,23 +143,32 @@ impl Bus {
         inputs
     }
 
-    /// A cycle of a controller.
+    /// A controller takes the inputs of its core in.
     #[tactic(auto, unfolding(board_machine::specs::DeviceMoves::inputs_of))]
-    fn move_intc(&mut self, k: usize)
+    fn take_inputs(&mut self, core: u16, k: usize)
         requires { k < length self.old.rows.intcs }
-        ensures { self.new ≡ record (self.old) { devices = intc_moved self.old.rows k self.old.devices } }
+        ensures { self.new ≡ record (self.old) { devices = inputs_taken self.old.rows core k self.old.devices } }
     {
-        let core = self.intc_rows[k].core;
         let inputs = self.bits_of_timers(core) | self.ask_uarts(core);
         self.intcs[k].cycle(inputs);
     }
 
-    /// A cycle of each controller.
-    pub fn move_intcs(&mut self)
-        ensures { self.new ≡ record (self.old) { devices = in_order (intc_moved self.old.rows) (length self.old.rows.intcs) self.old.devices } }
+    fn move_intc(&mut self, k: usize, cycle: u64)
+        requires { k < length self.old.rows.intcs }
+        ensures { self.new ≡ record (self.old) { devices = intc_moved self.old.rows cycle k self.old.devices } }
+    {
+        let row = &self.intc_rows[k];
+        if divides(row.clock as u64, cycle) {
+            self.take_inputs(row.core, k);
+        }
+    }
+
+    /// Each controller whose clock divides the cycle moves; up to then the edges of its core's UARTs are held.
+    pub fn move_intcs(&mut self, cycle: u64)
+        ensures { self.new ≡ record (self.old) { devices = in_order (intc_moved self.old.rows cycle) (length self.old.rows.intcs) self.old.devices } }
     {
         for k in 0..self.intc_rows.len() {
-            self.move_intc(k);
+            self.move_intc(k, cycle);
         }
     }
 

@@ -46,12 +46,12 @@ fn bus_of(alloc: Global, bytes: &[u8]) -> Result<Bus, Fail> {
 
 /// One step of the devices in a cycle, and the byte that left the UART.
 fn step(bus: &mut Bus, cycle: u64) -> Option<u8> {
-    bus.move_timers();
+    bus.move_timers(cycle);
     let mut left = None;
     if bus.uarts() == 1 && bus.is_turn(cycle, 0) {
         left = bus.move_uart(0);
     }
-    bus.move_intcs();
+    bus.move_intcs(cycle);
     left
 }
 

@@ -26,9 +26,10 @@ buildable files file journal b passes =
       few_links = omega (arith, links);
       clocks = λ k row at. (sound.clocks k row at).0;
       depths = sound.depths;
-      timers = sound.timer_inputs;
+      timers = λ k row at. (sound.timer_inputs k row at, (sound.timer_clocks k row at).0);
+      intcs = λ k row at. (sound.intc_clocks k row at).0;
       few_uarts = sound.few_uarts;
-      uarts = λ k row at. (sound.uart_inputs k row at, (sound.uart_turns k row at).0);
+      uarts = λ k row at. (sound.uart_inputs k row at, (sound.uart_turns k row at).0, (sound.uart_clocks k row at).0);
     }
 
 -- a core is new

@@ -39,7 +39,8 @@ impl Wires {
         ensures { self.new ≡ timers_moved self.old }
     {
         self.is_at_rest = false;
-        self.bus.move_timers();
+        let cycle = self.cycle;
+        self.bus.move_timers(cycle);
     }
 
     /// The turn of each UART.
@@ -81,7 +82,8 @@ impl Wires {
         ensures { self.new ≡ intcs_moved self.old }
     {
         self.is_at_rest = false;
-        self.bus.move_intcs();
+        let cycle = self.cycle;
+        self.bus.move_intcs(cycle);
     }
 
     /// Keeps whether the devices can do anything by themselves.

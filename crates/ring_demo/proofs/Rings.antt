@@ -81,6 +81,7 @@ buildable turn number =
       clocks = clocked (range_with_len 0 (cores_of number));
       depths = deep (cores_of number) (range_with_len 0 (cores_of number));
       timers = λ k row at. absurd (none_some row at);
+      intcs = λ k row at. absurd (none_some row at);
       few_uarts = omega arith;
       uarts = λ k row at. absurd (none_some row at);
     }
