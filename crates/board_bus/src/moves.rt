@@ -50,7 +50,8 @@ impl Bus {
         requires { k < length self.old.rows.timers }
         ensures { self.new ≡ record (self.old) { devices = timer_moved self.old.rows cycle k self.old.devices } }
     {
-        if divides(self.timer_rows[k].clock as u64, cycle) {
+        let clock = self.timer_rows[k].clock as u64;
+        if divides(clock, cycle) {
             self.timers[k].cycle();
         }
     }
@@ -157,9 +158,10 @@ impl Bus {
         requires { k < length self.old.rows.intcs }
         ensures { self.new ≡ record (self.old) { devices = intc_moved self.old.rows cycle k self.old.devices } }
     {
-        let row = &self.intc_rows[k];
-        if divides(row.clock as u64, cycle) {
-            self.take_inputs(row.core, k);
+        let clock = self.intc_rows[k].clock as u64;
+        if divides(clock, cycle) {
+            let core = self.intc_rows[k].core;
+            self.take_inputs(core, k);
         }
     }
 
