@@ -1,7 +1,7 @@
 """A whole board, plain and slow: board file, images and inputs to output files, journal and report.
 
 Written from what a board is, apart from the proved program. A cycle is a step of the devices (breaks become pending, then
-timers, UARTs and controllers move, then lines are latched), a move of the host at each link with a file, and a tick of each
+the timers, UARTs and controllers whose turn it is move, then lines are latched), a move of the host at each link with a file, and a tick of each
 core that is due.
 
     python3 model/board.py run BOARD [--cycles N] [--journal N] [--write-journal FILE]
@@ -124,13 +124,15 @@ class Board:
     def devices(self):
         self.give_breaks()
         for timer in self.timers:
-            timer.cycle()
+            if timer.is_due(self.cycle):
+                timer.cycle()
         for uart in self.uarts:
             byte = uart.cycle(self.cycle)
             if byte is not None:
                 self.enter("-", 0, f"left {uart.name} {byte:02X}")
         for controller in self.controllers:
-            controller.cycle()
+            if controller.is_due(self.cycle):
+                controller.cycle()
         self.latch()
 
     def latch(self):
@@ -292,12 +294,13 @@ def build_uart(name, row, folder):
 
 
 def build_devices(file, folder, by_name):
-    """Timers, UARTs and controllers, each in the window of its core's bus; the controllers have their inputs."""
+    """Timers, UARTs and controllers, each in the window of its core's bus and with its clock; the controllers have their inputs."""
     found = {"timer": [(row, devices.Timer()) for _, row in rows(file, "timer")],
              "uart": [(row, build_uart(name, row, folder)) for name, row in rows(file, "uart")]}
     found["intc"] = [(row, devices.Controller([(other["irq"], device) for other, device in found["timer"] + found["uart"]
                                                if other["core"] == row["core"] and "irq" in other])) for _, row in rows(file, "intc")]
     for row, device in found["timer"] + found["uart"] + found["intc"]:
+        device.clock = row.get("clock", 1)
         by_name[row["core"]].bus.windows[row["base"]] = device
     for row, device in found["intc"]:
         by_name[row["core"]].bus.controller = device

@@ -8,24 +8,25 @@ import toml_reader
 
 NAME = re.compile(rb"[a-z0-9_]{1,24}")
 FILE = re.compile(r"[A-Za-z0-9_./][A-Za-z0-9_./-]{0,63}")
-MILLION = 1_000_000
+MILLION, MOST_MEMORY = 1_000_000, 1_073_741_824
 RANGES = {"clock": (1, MILLION), "depth": (1, 4096), "from_port": (0, 15), "to_port": (0, 15), "irq": (0, 31),
           "every": (1, MILLION), "cycle": (0, MILLION * MILLION), "base": (0, 2**32 - 4096)}
 CORES = {"from", "to", "core"}
 FILES = {"image", "from_file", "to_file", "output", "input"}
 CHOICES = {"pipeline": (611, ("plain", "three", "five", "eight")), "order": (612, ("ascending", "descending", "rotating")),
            "kind": (606, ("break", "nonmaskable"))}
-# the keys of a row of each table: those that it needs, and those that may be left out
+# the keys of a row of each table: those that it needs, and those that may be left out; devices have a clock in version 2 alone
 KEYS = {
     "core": ({"image", "pipeline"}, {"clock", "memory"}),
     "link": (set(), {"depth", "from", "from_port", "from_file", "to", "to_port", "to_file"}),
-    "timer": ({"core", "base"}, {"irq"}),
-    "intc": ({"core", "base"}, set()),
-    "uart": ({"core", "base", "output"}, {"irq", "input", "every"}),
+    "timer": ({"core", "base"}, {"irq", "clock"}),
+    "intc": ({"core", "base"}, {"clock"}),
+    "uart": ({"core", "base", "output"}, {"irq", "input", "every", "clock"}),
     "event": ({"core", "cycle", "kind"}, set()),
 }
 DEVICES = ("timer", "intc", "uart")
-MOST = {"core": (16, 615), "link": (64, 616), "timer": (64, 606), "uart": (64, 606), "event": (256, 606)}
+# the most rows of each table in the two versions, and the code of more
+MOST = {"core": (16, 64, 615), "link": (64, 256, 616), "timer": (64, 64, 606), "uart": (64, 64, 606), "event": (256, 256, 606)}
 
 
 def is_number(value):
@@ -62,9 +63,16 @@ class Rules:
         self.tree, self.faults = tree, []
         self.tables = {table: tree[table] if isinstance(tree.get(table), dict) else {} for table in KEYS}
         self.cores = self.tables["core"]
+        version = tree.get("version")
+        self.version = version if is_number(version) and version in (1, 2) else None
 
     def add(self, code, *path):
         self.faults.append((code, ".".join(path).encode()[:64]))
+
+    def keys(self, table):
+        """The keys of a row: those that it needs, and those that may be left out."""
+        needed, optional = KEYS[table]
+        return needed, optional - {"clock"} if table in DEVICES and self.version != 2 else optional
 
     def rows(self, *tables):
         """Each row that is a table: its table, name and keys."""
@@ -78,8 +86,7 @@ class Rules:
         return row[key] if key in row and value_code(key, row[key], self.cores) is None else None
 
     def test_top(self):
-        version = self.tree.get("version")
-        if not (is_number(version) and version == 1):
+        if not self.version:
             self.add(602, "version")
         for key, value in self.tree.items():
             if key in KEYS:
@@ -92,12 +99,13 @@ class Rules:
                 self.add(603, key)
         if self.tree.get("core", {}) == {}:
             self.add(604, "core")
-        for table, (most, code) in MOST.items():
-            if len(self.tables[table]) > most:
+        for table, (first, second, code) in MOST.items():
+            if len(self.tables[table]) > (second if self.version == 2 else first):
                 self.add(code, table)
 
     def test_rows(self):
-        for table, (needed, optional) in KEYS.items():
+        for table in KEYS:
+            needed, optional = self.keys(table)
             for name, row in self.tables[table].items():
                 if not NAME.fullmatch(name.encode()):
                     self.add(606, table, name)
@@ -110,6 +118,12 @@ class Rules:
                     code = value_code(key, value, self.cores) if key in needed | optional else 603
                     if code:
                         self.add(code, table, name, key)
+
+    def test_memories(self):
+        """The sum of the memories, where each is right."""
+        sizes = [row.get("memory", 65_536) if isinstance(row, dict) else None for row in self.cores.values()]
+        if all(map(is_memory, sizes)) and sum(sizes) > MOST_MEMORY:
+            self.add(619, "core")
 
     def test_links(self):
         for _, name, row in self.rows("link"):
@@ -168,6 +182,6 @@ def least_fault(data):
     except toml_reader.Refused:
         return (601, b""), None
     rules = Rules(tree)
-    for test in (rules.test_top, rules.test_rows, rules.test_links, rules.test_files, rules.test_devices, rules.test_network):
+    for test in (rules.test_top, rules.test_rows, rules.test_memories, rules.test_links, rules.test_files, rules.test_devices, rules.test_network):
         test()
     return min(rules.faults, default=None), tree

@@ -14,6 +14,12 @@ class BadAccess(Exception):
 
 
 class Device:
+    """It moves in each cycle that its clock divides."""
+    clock = 1
+
+    def is_due(self, number):
+        return number % self.clock == 0
+
     def access(self, offset, word=None):
         """Reads the register at an offset, or writes a word to it; the answer is a word."""
         if offset not in self.registers:
@@ -94,6 +100,10 @@ class Timer(Device):
     def line(self):
         return any(one.status & TINT and one.status & ENIT for one in self.counters)
 
+    def answer(self):
+        """The level of the output, as a controller reads it at its move."""
+        return self.line
+
 
 # the interrupt controller
 
@@ -135,9 +145,10 @@ class Controller(Device):
         self.mer = self.mer & HIE | word & (ME | HIE)
 
     def cycle(self):
-        if self.mer & HIE:
-            for number, device in self.inputs:
-                self.isr |= bool(device.line) << number
+        for number, device in self.inputs:
+            high = device.answer()
+            if self.mer & HIE:
+                self.isr |= bool(high) << number
 
     @property
     def line(self):
@@ -151,12 +162,12 @@ RST_TX, RST_RX, ENABLE = 0x01, 0x02, 0x10
 
 
 class Uart(Device):
-    """`given` are the bytes that are still to arrive, and `left` those that left."""
+    """`given` are the bytes that are still to arrive, and `left` those that left. An edge is held until it is asked for."""
 
     def __init__(self, name="", every=1, given=b""):
         self.name, self.every, self.given, self.left = name, every, collections.deque(given), bytearray()
         self.rx, self.tx = collections.deque(), collections.deque()
-        self.enabled = self.overrun = self.line = False
+        self.enabled = self.overrun = self.held = False
         self.registers = {
             0x0: (self.receive, nothing),      # RX
             0x4: (zero, self.send),            # TX
@@ -187,13 +198,11 @@ class Uart(Device):
         self.enabled = bool(word & ENABLE)
 
     def cycle(self, number):
-        """What the UART does in the board's cycle of this number: the byte that left, or None. The line is high in the one cycle
-        of an edge."""
-        self.line = False
-        if number % self.every:
+        """What the UART does in the board's cycle of this number: the byte that left, or None."""
+        if number % (self.every * self.clock):
             return None
         emptied, filled = len(self.tx) == 1, bool(self.given and not self.rx)
-        self.line = self.enabled and (emptied or filled)
+        self.held = self.held or self.enabled and (emptied or filled)
         byte = self.tx.popleft() if self.tx else None
         if byte is not None:
             self.left.append(byte)
@@ -206,6 +215,11 @@ class Uart(Device):
             self.overrun = True
         else:
             self.rx.append(byte)
+
+    def answer(self):
+        """Whether an edge is held, which is then gone."""
+        held, self.held = self.held, False
+        return held
 
     def is_done(self):
         return not self.given and not self.tx

@@ -118,25 +118,28 @@ def image_cases():
 
 # board files
 
-def wide_board():
-    """A lawful board with all that a board can have, under the longest names."""
+def wide_board(version):
+    """A lawful board with all that a board of this version can have, under the longest names."""
     def name(kind, number):
         return f"{kind}_{number:0{23 - len(kind)}d}"
 
     def file(kind, number):
         return f"{kind}{number:0{64 - len(kind)}d}"
 
-    lines = ["version = 1"]
-    for k in range(16):
+    lines, cores, links = [f"version = {version}"], *((16, 64) if version == 1 else (64, 256))
+    clock = ", clock = 1000000" if version == 2 else ""
+    for k in range(cores):
         lines.append(f'core.{name("core", k)} = {{image = "image", pipeline = "eight", memory = 4096}}')
-        lines.append(f'intc.{name("intc", k)} = {{core = "{name("core", k)}", base = 0x41200000}}')
+        lines.append(f'intc.{name("intc", k)} = {{core = "{name("core", k)}", base = 0x41200000{clock}}}')
+    for k in range(links):
+        core = name("core", k % cores)
+        lines.append(f'link.{name("link", k)} = {{depth = 4096, from = "{core}", from_port = {k // cores}, to_file = "{file("link", k)}"}}')
     for k in range(64):
         core = name("core", k % 16)
-        lines.append(f'link.{name("link", k)} = {{depth = 4096, from = "{core}", from_port = {k // 16}, to_file = "{file("link", k)}"}}')
-        lines.append(f'timer.{name("timer", k)} = {{core = "{core}", base = {0x41C00000 + 4096 * k}, irq = {k // 16}}}')
-        lines.append(f'uart.{name("uart", k)} = {{core = "{core}", base = {0x42C00000 + 4096 * k}, irq = {8 + k // 16}, output = "{file("uart", k)}"}}')
+        lines.append(f'timer.{name("timer", k)} = {{core = "{core}", base = {0x41C00000 + 4096 * k}, irq = {k // 16}{clock}}}')
+        lines.append(f'uart.{name("uart", k)} = {{core = "{core}", base = {0x42C00000 + 4096 * k}, irq = {8 + k // 16}, output = "{file("uart", k)}"{clock}}}')
     for k in range(256):
-        lines.append(f'event.{name("event", k)} = {{core = "{name("core", k % 16)}", cycle = {k}, kind = "nonmaskable"}}')
+        lines.append(f'event.{name("event", k)} = {{core = "{name("core", k % cores)}", cycle = {k}, kind = "nonmaskable"}}')
     return "\n".join(lines).encode() + b"\n"
 
 
@@ -188,9 +191,15 @@ def board_cases():
     yield many("28,000 timers with one number", "timer", lambda k: f"core='a',irq=9,base={4096 * k}", "604 at timer.10000.irq")
     yield many("33,000 controllers on a core", "intc", lambda k: f"core='a',base={4096 * k}", "614 at intc.10001.core")
     yield many("28,000 events", "event", lambda k: "core='a',cycle=1,kind='break'", "606 at event")
-    yield Case("board: all rows that a board can have, under the longest names", "run board.toml --cycles 5",
-               {"board.toml": wide_board, "image": segments([(1, 0, 4, 4, 5)])}, 3, "", 16)
+    for version, room in ((1, 16), (2, 64)):
+        yield Case(f"board: all rows that a board of version {version} can have, under the longest names", "run board.toml --cycles 5",
+                   {"board.toml": lambda version=version: wide_board(version), "image": segments([(1, 0, 4, 4, 5)])}, 3, "", room)
     cores = numbered(head, lambda k: f"core.c{k} = {{image = 'image', pipeline = 'plain', memory = {MEMORY}}}", BOARD, count=16)
+    second = "version = 2\n"
+    for count, form, line in ((17, "core.c{0} = {{image = 'image', pipeline = 'plain'}}", ""),
+                              (65, "core.c{0} = {{image = 'image', pipeline = 'plain'}}", "615 at core"),
+                              (17, f"core.c{{0}} = {{{{image = 'image', pipeline = 'plain', memory = {MEMORY}}}}}", "619 at core")):
+        yield case(f"{count} cores in version 2{', of 64 MiB each' if 'memory' in form else ''}", numbered(second, lambda k, form=form: form.format(k), BOARD, count=count), line)
     yield Case("board: 16 cores of 64 MiB", "run board.toml --cycles 5", {"image": segments([(1, 0, 4, 4, 5)]), "board.toml": cores}, 0, "", 1024)
 
 

@@ -225,11 +225,11 @@ def some_pipelines(chance):
     return chance.choice((timing.PIPELINES, timing.PIPELINES, timing.PIPELINES[:1], timing.PIPELINES[1:]))
 
 
-def write_board(chance, folder, tables, network=False):
+def write_board(chance, folder, tables, network=False, version=1):
     """Writes a board file, and two input files for links; answers the words to run it with."""
     chance.shuffle(tables)
     top = [f'order = "{chance.choice(("ascending", "descending", "rotating"))}"'] * (chance.random() < 0.8) + ["network = true"] * network
-    pathlib.Path(folder, "board.toml").write_text("\n".join(["version = 1"] + top + tables) + "\n")
+    pathlib.Path(folder, "board.toml").write_text("\n".join([f"version = {version}"] + top + tables) + "\n")
     for number in range(2):
         items = [(chance.random() < 0.2, chance.getrandbits(chance.choice((3, 32)))) for _ in range(chance.randrange(10, 60))]
         pathlib.Path(folder, f"in{number}").write_bytes(board.bytes_of(items))
@@ -276,13 +276,17 @@ BAD_NAMES = ["A", "x" * 24, "x" * 25, "", "a.b", "\u00e9", "y" * 60 + "\u20ac\u2
 def whole_tree(chance):
     """A lawful board with everything, or with no devices."""
     port = {"from": "a", "from_port": 0, "to": "b", "to_port": 0}
-    tree = {"version": 1, "order": "descending", "network": False,
+    version = chance.choice((1, 2))
+    tree = {"version": version, "order": "descending", "network": False,
             "core": {"a": {"image": "a.elf", "pipeline": "plain"}, "b": {"image": "b.elf", "pipeline": "plain", "clock": 1, "memory": 8192}},
             "link": {"x": {"depth": 1, **port}, "y": {"from": "b", "from_port": 1, "to_file": "out"}, "z": {"from_file": "in", "to": "a", "to_port": 3}},
             "event": {"e": {"core": "a", "cycle": 3, "kind": "break"}}}
     if chance.random() < 0.6:
         tree |= {"timer": {"t": {"core": "a", "base": 0x41C00000, "irq": 0}}, "intc": {"i": {"core": "a", "base": 0x41200000}},
                  "uart": {"u": {"core": "a", "base": 0x40600000, "output": "text", "irq": 1, "every": 3, "input": "in"}}}
+        for table in ("timer", "intc", "uart") if version == 2 else ():
+            for row in tree[table].values():
+                row["clock"] = chance.randrange(1, 6)
     return tree
 
 
@@ -309,7 +313,7 @@ def change(chance, tree):
     elif kind == 12:
         chance.choice([tree, tree[table]])[chance.choice(["version", "order", "network", "core", "link", "timer", "a", "x"])] = chance.choice([True, 1, 2, "1", {}, 5])
     else:
-        most = chance.choice([16, 17, 64, 65, 256, 257])
+        most = chance.choice([16, 17, 17, 64, 65, 256, 257])
         for number in range(most if isinstance(row, dict) and chance.random() < 0.4 else 0):
             tree[table][f"n{number}"] = dict(row)
 

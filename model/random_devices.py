@@ -160,8 +160,8 @@ def image(chance, ports, devices):
     return elf.write(elf.Image(order, 0x40, parts))
 
 
-def device_tables(chance, core):
-    """Tables of a core's devices, and the bases and kinds of them."""
+def device_tables(chance, core, version):
+    """Tables of a core's devices, which have clocks in version 2, and the bases and kinds of them."""
     kinds = ["intc"] * (chance.random() < 0.85) + ["timer"] * chance.choice((0, 1, 1, 2)) + ["uart"] * chance.choice((0, 1, 1, 2))
     bases, numbers = chance.sample(BASES, len(kinds)), chance.sample(range(32), len(kinds))
     tables = []
@@ -170,6 +170,8 @@ def device_tables(chance, core):
         rows = [f"[{kind}.{name}]", f'core = "{core}"', f"base = {base}"]
         if kind != "intc" and "intc" in kinds and chance.random() < 0.9:
             rows.append(f"irq = {number}")
+        if version == 2 and chance.random() < 0.8:
+            rows.append(f"clock = {chance.randrange(1, 6)}")
         if kind == "uart":
             rows.append(f'output = "text_{name}"')
             rows += [f'input = "typed{chance.randrange(2)}"'] * (chance.random() < 0.7)
@@ -181,14 +183,14 @@ def device_tables(chance, core):
 def device_board(seed, folder):
     """Writes a board with devices, its images and inputs; answers the words to run it with."""
     chance = random.Random(seed)
-    names = chance.sample(NAMES, chance.randrange(1, 4))
+    names, version = chance.sample(NAMES, chance.randrange(1, 4)), chance.choice((1, 2, 2))
     tables, ports = random_boards.random_links(chance, names)
     pipelines = random_boards.some_pipelines(chance)
     for name in names:
-        more, devices = device_tables(chance, name)
+        more, devices = device_tables(chance, name, version)
         tables += more + [random_boards.core_table(chance, name, pipelines)]
         made = image(chance, ports[name], devices) if devices else random_boards.random_image(chance, ports[name], False)
         pathlib.Path(folder, f"{name}.elf").write_bytes(made)
     for number in range(2):
         pathlib.Path(folder, f"typed{number}").write_bytes(chance.randbytes(chance.choice((0, 1, 5, 20, 40))))
-    return random_boards.write_board(chance, folder, tables + random_boards.event_tables(chance, names))
+    return random_boards.write_board(chance, folder, tables + random_boards.event_tables(chance, names), version=version)

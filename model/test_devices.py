@@ -14,8 +14,8 @@ INTC, TIMER, UART = 0x4120, 0x41C0, 0x4060
 TO_MAIN = [0xB8080040]
 
 
-def core_text(pipeline="plain"):
-    return f'version = 1\n[core.c]\nimage = "c.elf"\npipeline = "{pipeline}"\n'
+def core_text(pipeline="plain", version=1):
+    return f'version = {version}\n[core.c]\nimage = "c.elf"\npipeline = "{pipeline}"\n'
 
 
 def device_text(kind, upper, **keys):
@@ -151,14 +151,39 @@ def uart_edges():
             uart.access(0x4, 1)
             uart.access(0x4, 2)
         uart.cycle(number)
-        lines.append(uart.line)
+        lines.append(uart.answer())
     check("edges at a first byte, and no other", lines, [True, False, False, False, True, False])
     uart.access(0xC, 0x13)
     uart.cycle(6)
-    check("none where a queue was emptied", (uart.access(0x8), uart.line), (0x14, False))
+    check("none where a queue was emptied", (uart.access(0x8), uart.answer()), (0x14, False))
     uart.access(0x4, 3)
     uart.cycle(8)
-    check("one where the last byte left", (uart.line, uart.left), (True, bytes([1, 3])))
+    check("one where the last byte left", (uart.answer(), uart.left), (True, bytes([1, 3])))
+
+
+def uart_holds():
+    """An edge is held until a controller moves, which sees one high input; two edges before that are one."""
+    uart = devices.Uart(given=b"ab")
+    uart.access(0xC, 0x10)
+    uart.cycle(0)
+    uart.access(0x0)
+    uart.cycle(1)
+    intc = devices.Controller([(5, uart)])
+    intc.access(0x1C, 2)
+    seen = []
+    for _ in range(2):
+        intc.cycle()
+        seen.append(intc.access(0x0))
+        intc.access(0xC, 0x20)
+    check("an edge that is held", seen, [0x20, 0])
+    uart.access(0x0)
+    uart.access(0x4, 1)
+    uart.cycle(2)
+    deaf = devices.Controller([(5, uart)])
+    deaf.cycle()
+    deaf.access(0x1C, 2)
+    deaf.cycle()
+    check("an edge that a controller without HIE has passed over", deaf.access(0x0), 0)
 
 
 # boards
@@ -169,8 +194,8 @@ INTERRUPTED = {0: TO_MAIN, 0x10: [0x6C038000, 0x6C0E8000, END], 0x40: [
 STORES = ("41200008 00000001", "4120001C 00000003", "41C00004 00000001", "41C00000 00000020", "41C00000 000000D2")
 
 
-def interrupted(pipeline):
-    text = core_text(pipeline) + OUT.format(depth=16) + device_text("intc", INTC) + device_text("timer", TIMER, irq=0)
+def interrupted(pipeline, version=1, **keys):
+    text = core_text(pipeline, version) + OUT.format(depth=16) + device_text("intc", INTC) + device_text("timer", TIMER, irq=0, **keys)
     return run(text, {"c.elf": INTERRUPTED})
 
 
@@ -191,6 +216,30 @@ def timer_interrupt():
     for pipeline in ("five", "eight"):
         done = interrupted(pipeline)
         check(f"the same on {pipeline}", (done.status, done.files["out"]), (0, bytes.fromhex("00123456780000000080")))
+
+
+def slow_timer():
+    """The timer of the first run moves in each third cycle: it loads in cycle 12, stands at 0 behind cycle 15's move and is past
+    its end in cycle 18."""
+    done = interrupted("plain", version=2, clock=3)
+    wanted = [f"{cycle} c {cycle} wrote {told}" for cycle, told in zip((7, 8, 9, 11, 14), STORES)]
+    wanted += ["18 c 18 lineup", "18 c 18 took interrupt", "19 c 19 sent 0 0 12345678", "20 - 0 hostgot l 0 12345678",
+               "20 c 20 sent 0 0 00000080", "21 - 0 hostgot l 0 00000080"]
+    report = "status 0 cycles 22 entries 11\ncore c ended pc 00000018 acts 21\nlink l sent 2 taken 2\n"
+    check("a timer with a clock", (done.out, journal_of(done)), (report, wanted))
+    check("its file", (done.status, done.files["out"]), (0, bytes.fromhex("00123456780000000080")))
+
+
+def slow_controller():
+    """A controller that moves in each tenth cycle sees the timer's level then; its line goes down in the cycle after a store, and up
+    again at its next move."""
+    text = core_text(version=2) + device_text("intc", INTC, clock=10) + device_text("timer", TIMER, irq=0)
+    acknowledge = [word("addik", rd=6, low=1), word("swi", rd=6, ra=3, low=0xC)] + [NOTHING] * 8 + [END]
+    main = INTERRUPTED[0x40][:14] + [NOTHING] * 9 + acknowledge
+    done = run(text, {"c.elf": {0: TO_MAIN, 0x10: [END], 0x40: [one if one != 0x94100002 else NOTHING for one in main]}}, cycles=40)
+    wanted = [f"{cycle} c {cycle} wrote {told}" for cycle, told in zip((7, 8, 9, 11, 14), STORES)]
+    wanted += ["20 c 20 lineup", "25 c 25 wrote 4120000C 00000001", "26 c 26 linedown", "30 c 30 lineup"]
+    check("a controller with a clock", journal_of(done), wanted)
 
 
 def with_sections(image):
@@ -266,7 +315,8 @@ def refusals():
 
 
 def main():
-    for test in (timer_reload, timer_bits, intc_acknowledge, intc_registers, uart_full, uart_overrun, uart_edges, timer_interrupt, polled_uart,
+    for test in (timer_reload, timer_bits, intc_acknowledge, intc_registers, uart_full, uart_overrun, uart_edges, uart_holds, timer_interrupt,
+                 slow_timer, slow_controller, polled_uart,
                  woken_by_a_byte, running_timer, bus_faults, refusals):
         test()
     test_board.deferred_breaks(device_text("intc", INTC))

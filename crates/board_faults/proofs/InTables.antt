@@ -4,7 +4,7 @@ use Rattle.toml.specs.Data.{Data, Members, array, as_table, boolean, datetime, f
 use Rattle.board_file.specs.Faults.{IsOneOf, fault, fault_at, fault_unless}
 use Rattle.board_file.specs.Keys.{key_of, row_keys, top_keys}
 use Rattle.board_file.specs.Read.{is_board_name, key_code}
-use Rattle.board_file.specs.Rules.{are_few, code_if, count_faults, count_members, each_row, inner_faults, is_empty_table, is_known, is_link, is_network, key_faults, keys_faults, many_code, row_code, row_faults, stray_faults, table_faults, top_faults, value_faults}
+use Rattle.board_file.specs.Rules.{are_few, code_if, count_faults, count_members, each_row, inner_faults, is_empty_table, is_known, is_link, is_network, key_faults, keys_faults, many_code, row_code, row_faults, stray_faults, table_faults, top_faults, value_faults, version_in_file}
 use Rattle.board_file.specs.Tree.{at_key, further, inside, row_place, rows_in, table_place}
 use Rattle.board_file.specs.declared.fault.BoardRule.{BoardRule}
 use Rattle.board_file.specs.declared.fault.BoardRule.TheVariants as broken
@@ -82,20 +82,20 @@ keys_of_row_told tree r name keys f row h = by_side (one_of_two f (first ++ stra
     at = row_place r name
 
     first : List Fault
-    first = keys_faults tree (inside at) keys (row_keys r)
+    first = keys_faults tree (inside at) keys (row_keys (version_in_file tree) r)
 
     strays : List Fault
-    strays = stray_faults (inside at) (row_keys r) keys
+    strays = stray_faults (inside at) (row_keys (version_in_file tree) r) keys
 
     standing : List Fault
     standing = fault_at (row_code (is_network tree) r keys) at
 
-    of_file : HasKeys tree (inside at) keys (row_keys r)
+    of_file : HasKeys tree (inside at) keys (row_keys (version_in_file tree) r)
     of_file = a_row r name keys row
 
     by_part : IsOneOf f first ⊎ IsOneOf f strays → IsTrue tree f
-    by_part (inl here) = keys_told tree (inside at) keys (row_keys r) f of_file here
-    by_part (inr later) = strays_told tree (inside at) keys (row_keys r) f of_file keys (λ t d g. g) later
+    by_part (inl here) = keys_told tree (inside at) keys (row_keys (version_in_file tree) r) f of_file here
+    by_part (inr later) = strays_told tree (inside at) keys (row_keys (version_in_file tree) r) f of_file keys (λ t d g. g) later
 
     by_side : IsOneOf f (first ++ strays) ⊎ IsOneOf f standing → IsTrue tree f
     by_side (inl front) = by_part (one_of_two f first strays front)
@@ -135,7 +135,7 @@ rows_told tree r f (member name d ms) more h =
     by_side (inl here) rest = row_told tree r name d f (more name d (inl (refl, refl))) here
     by_side (inr later) rest = rest later
 
-many_told : (tree : Members) (r : Rows) (f : Fault) → are_few r (count_members (rows_in tree r)) ≡ false → fault (many_code r) (table_place r) ≡ f → IsTrue tree f
+many_told : (tree : Members) (r : Rows) (f : Fault) → are_few (version_in_file tree) r (count_members (rows_in tree r)) ≡ false → fault (many_code r) (table_place r) ≡ f → IsTrue tree f
 unfolding are_few many_code
 many_told tree rows.Core f e same = is_true tree broken.TooManyCores _ f same (many_cores (grind (arith, e)))
 many_told tree rows.Link f e same = is_true tree broken.TooManyLinks _ f same (many_links (grind (arith, e)))
@@ -148,7 +148,7 @@ pub table_told : (tree : Members) (r : Rows) (f : Fault) → IsOneOf f (table_fa
 unfolding table_faults count_faults
 table_told tree r f h = by_side (one_of_two f (each_row (is_network tree) tree r (rows_in tree r)) _ h)
   where
-    by_side : IsOneOf f (each_row (is_network tree) tree r (rows_in tree r)) ⊎ IsOneOf f (fault_unless (are_few r (count_members (rows_in tree r))) (many_code r) (table_place r)) → IsTrue tree f
+    by_side : IsOneOf f (each_row (is_network tree) tree r (rows_in tree r)) ⊎ IsOneOf f (fault_unless (are_few (version_in_file tree) r (count_members (rows_in tree r))) (many_code r) (table_place r)) → IsTrue tree f
     by_side (inl here) = rows_told tree r f (rows_in tree r) (λ n d g. g) here
     by_side (inr later) = let many = unless f _ (many_code r) (table_place r) later in many_told tree r f many.0 many.1
 

@@ -6,7 +6,7 @@ use Rattle.board_file.specs.Bus.{memory_of, memory_sum}
 use Rattle.board_file.specs.Faults.{code_of, is_earlier}
 use Rattle.board_file.specs.Keys.{key_of, key_text, row_keys, top_keys}
 use Rattle.board_file.specs.Read.{break_of, core_name_at, file_at, file_of, is_board_name, number_at, number_of, pipeline_of, turn_of, version_of}
-use Rattle.board_file.specs.Rules.{count_members, is_empty_table, is_known, is_link, is_network}
+use Rattle.board_file.specs.Rules.{count_members, is_empty_table, is_known, is_link, is_network, most_cores, most_links, version_in_file}
 use Rattle.board_file.specs.Tree.{IsToml, IsTomlOf, at_key, further, has_core, inside, key_place, row_place, rows_in, table_place}
 use Rattle.board_file.specs.declared.fault.BoardFault.TheVariants.{Refused}
 use Rattle.board_file.specs.declared.fault.BoardRule.{BoardRule}
@@ -37,10 +37,10 @@ pub record HasRow (tree : Members) (r : Rows) (name : List ℕ) (keys : Members)
   pub there : IsMember name value (rows_in tree r)
   pub is_table : as_table value ≡ Some keys
 
--- what has keys: the file itself, and each row; and the path in front of its keys
+-- what has keys: the file itself, and each row, by the version; and the path in front of its keys
 pub data HasKeys (tree : Members) : List ℕ → Members → List KeyRule → Type 0 where
   the_file : HasKeys tree [] tree top_keys
-  a_row : (r : Rows) (name : List ℕ) (keys : Members) → HasRow tree r name keys → HasKeys tree (inside (row_place r name)) keys (row_keys r)
+  a_row : (r : Rows) (name : List ℕ) (keys : Members) → HasRow tree r name keys → HasKeys tree (inside (row_place r name)) keys (row_keys (version_in_file tree) r)
 
 abbrev pub kind_of : KeyRule → Kind
 kind_of (Needs k v) = v
@@ -191,9 +191,9 @@ pub data Tells (tree : Members) : BoardRule → List ℕ → Type 0 where
   -- two controllers of a core, or two devices at one input of it, of which this one's path is the later
   controller_twice : (place other core : List ℕ) → Controls tree place core → Controls tree other core → is_earlier other place ≡ true → Tells tree broken.InterruptTwice place
   irq_twice : (place other core : List ℕ) (input : ℕ) → HasIrq tree place core input → HasIrq tree other core input → is_earlier other place ≡ true → Tells tree broken.InterruptTwice place
-  -- too many cores, too many links
-  many_cores : 16 < count_members (rows_in tree rows.Core) → Tells tree broken.TooManyCores (table_place rows.Core)
-  many_links : 64 < count_members (rows_in tree rows.Link) → Tells tree broken.TooManyLinks (table_place rows.Link)
+  -- more cores, more links than the version lets be
+  many_cores : most_cores (version_in_file tree) < count_members (rows_in tree rows.Core) → Tells tree broken.TooManyCores (table_place rows.Core)
+  many_links : most_links (version_in_file tree) < count_members (rows_in tree rows.Link) → Tells tree broken.TooManyLinks (table_place rows.Link)
   -- a device, an event on a network board
   device_on_network : (r : Rows) (name : List ℕ) (keys : Members) → is_device r ≡ true → HasRow tree r name keys → is_network tree ≡ true → Tells tree broken.DeviceOnNetwork (row_place r name)
   event_on_network : (name : List ℕ) (keys : Members) → HasRow tree rows.Event name keys → is_network tree ≡ true → Tells tree broken.EventOnNetwork (row_place rows.Event name)

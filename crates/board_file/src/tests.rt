@@ -924,6 +924,33 @@ fn clocks_of_devices(rt: HostRuntime) -> Result<(), Fail> {
 }
 
 #[test]
+fn limit_of_all_memories(rt: HostRuntime) -> Result<(), Fail> {
+    let alloc = rt.alloc();
+    for (rows, last, code, place) in [
+        (16_u8, 67_108_864_u32, 0, ""),
+        (17, 67_108_864, 619, "core"),
+        (18, 67_112_960, 619, "core.z.memory"),
+    ] {
+        let mut text = String::from_str(alloc, "version = 2\n")?;
+        for k in 1..rows {
+            write!(
+                text,
+                "core.c{k} = {{image = 'i', pipeline = 'plain', memory = 67108864}}\n"
+            )?;
+        }
+        write!(
+            text,
+            "core.z = {{image = 'i', pipeline = 'plain', memory = {last}}}\n"
+        )?;
+        assert!(rt;
+            is_answered(alloc, text.as_bytes(), code, place),
+            "{rows} memories, the last of {last} bytes"
+        );
+    }
+    Ok(())
+}
+
+#[test]
 fn limits_of_devices_and_events(rt: HostRuntime) -> Result<(), Fail> {
     let alloc = rt.alloc();
     for (rows, code, place) in [(64_u8, 0, ""), (65, 606, "timer")] {

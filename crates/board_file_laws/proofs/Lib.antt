@@ -6,4 +6,6 @@ pub mod Names
 pub mod Lone
 pub mod Files
 pub mod Distinct
+pub mod Memories
+pub mod Versions
 pub mod Soundness

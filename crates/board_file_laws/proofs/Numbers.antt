@@ -4,10 +4,11 @@ use Rattle.std.specs.Option.{ok_or}
 use Rattle.std.specs.Result.{result_ok}
 use Rattle.toml.specs.Data.{Data, Members, as_integer}
 use Rattle.board_file.specs.Read.{file_at, is_board_name, is_number, name_of, judged, number_at, number_code, number_in, number_of, only_if, right}
-use Rattle.board_file.specs.Rows.{core_made, core_row, link_made, link_row, timer_made, timer_row, uart_made, uart_row}
+use Rattle.board_file.specs.Rows.{core_made, core_row, device_clock, intc_made, intc_row, link_made, link_row, timer_made, timer_row, uart_made, uart_row}
 use Rattle.board_file.specs.Tree.{at_key}
 use Rattle.board_file.specs.declared.board.CoreRow.{CoreRow}
 use Rattle.board_file.specs.declared.board.End.{End}
+use Rattle.board_file.specs.declared.board.IntcRow.{IntcRow}
 use Rattle.board_file.specs.declared.board.LinkRow.{LinkRow}
 use Rattle.board_file.specs.declared.board.Pipeline.{Pipeline}
 use Rattle.board_file.specs.declared.board.TimerRow.{TimerRow}
@@ -104,6 +105,10 @@ core_memory cores name ms core e =
     let made = made_core _ _ _ _ _ core e in
     memory_range core.memory (rw made.2 at (number_or quantity.Memory key.Memory ms 65536 memory_default))
 
+pub core_size : (cores : List CoreRow) (name : List ℕ) (ms : Members) (core : CoreRow) → core_row cores name ms ≡ Some core → unwrap_or (number_at quantity.Memory key.Memory ms) 65536 ≡ core.memory
+unfolding core_row
+core_size cores name ms core e = (made_core _ _ _ _ _ core e).2
+
 -- a link's row has the parts that it is made of
 pub record IsMadeOf (n : Option (List ℕ)) (d : ℕ) (f t : Option End) (link : LinkRow) : Type 0 where
   pub name : n ≡ Some link.name
@@ -167,3 +172,36 @@ unfolding uart_row
 uart_turn cores name ms uart e =
     let made = made_uart _ _ _ _ _ _ _ _ uart e in
     clock_range uart.every (rw made.1 at (number_or quantity.Clock key.Every ms 64 turn_default))
+
+-- the clock of a device
+device_turn : (ms : Members) (clock : ℕ) → device_clock ms ≡ clock → IsClock clock
+unfolding device_clock
+device_turn ms clock e = clock_range clock (rw e at (number_or quantity.Clock key.Clock ms 1 clock_default))
+
+made_intc : (name : Option (List ℕ)) (core base : Option ℕ) (clock : ℕ) (intc : IntcRow) → intc_made name core base clock ≡ Some intc → clock ≡ intc.clock
+made_intc (Some n) (Some c) (Some b) clock intc e = grind arith
+made_intc None c b clock intc e = grind arith
+made_intc (Some n) None b clock intc e = grind arith
+made_intc (Some n) (Some c) None clock intc e = grind arith
+
+-- a device has the clock that its keys give
+pub timer_device : (cores : List CoreRow) (name : List ℕ) (ms : Members) (timer : TimerRow) → timer_row cores name ms ≡ Some timer → device_clock ms ≡ timer.clock
+unfolding timer_row
+timer_device cores name ms timer e = (made_timer _ _ _ _ _ timer e).1
+
+pub intc_device : (cores : List CoreRow) (name : List ℕ) (ms : Members) (intc : IntcRow) → intc_row cores name ms ≡ Some intc → device_clock ms ≡ intc.clock
+unfolding intc_row
+intc_device cores name ms intc e = made_intc _ _ _ _ intc e
+
+pub uart_device : (cores : List CoreRow) (name : List ℕ) (ms : Members) (uart : UartRow) → uart_row cores name ms ≡ Some uart → device_clock ms ≡ uart.clock
+unfolding uart_row
+uart_device cores name ms uart e = (made_uart _ _ _ _ _ _ _ _ uart e).2
+
+pub timer_clock : (cores : List CoreRow) (name : List ℕ) (ms : Members) (timer : TimerRow) → timer_row cores name ms ≡ Some timer → IsClock timer.clock
+timer_clock cores name ms timer e = device_turn ms timer.clock (timer_device cores name ms timer e)
+
+pub intc_clock : (cores : List CoreRow) (name : List ℕ) (ms : Members) (intc : IntcRow) → intc_row cores name ms ≡ Some intc → IsClock intc.clock
+intc_clock cores name ms intc e = device_turn ms intc.clock (intc_device cores name ms intc e)
+
+pub uart_clock : (cores : List CoreRow) (name : List ℕ) (ms : Members) (uart : UartRow) → uart_row cores name ms ≡ Some uart → IsClock uart.clock
+uart_clock cores name ms uart e = device_turn ms uart.clock (uart_device cores name ms uart e)

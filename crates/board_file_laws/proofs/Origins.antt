@@ -7,7 +7,7 @@ use Rattle.board_file.specs.Faults.{fault_at, fault_unless}
 use Rattle.board_file.specs.Keys.{row_keys}
 use Rattle.board_file.specs.Read.{is_board_name}
 use Rattle.board_file.specs.Rows.{AreRows, row_in}
-use Rattle.board_file.specs.Rules.{each_row, inner_faults, keys_faults, row_code, row_faults, stray_faults, value_faults}
+use Rattle.board_file.specs.Rules.{each_row, inner_faults, keys_faults, row_code, row_faults, stray_faults, value_faults, version_in_file}
 use Rattle.board_file.specs.Tree.{inside, row_place}
 use Rattle.board_file.specs.declared.claims.Claim.{Claim}
 use Rattle.board_file.specs.declared.fault.BoardRule.TheVariants as broken
@@ -33,17 +33,19 @@ among_later c (x ∷ xs) ys h = inr (among_later c xs ys h)
 -- a row of a table without faults has a right name and right keys, and may stand
 pub record IsRight (network : Bool) (tree : Members) (r : Rows) (name : List ℕ) (ms : Members) : Type 0 where
   pub named : is_board_name name ≡ true
-  pub keys : keys_faults tree (inside (row_place r name)) ms (row_keys r) ≡ []
+  pub keys : keys_faults tree (inside (row_place r name)) ms (row_keys (version_in_file tree) r) ≡ []
+  pub strays : stray_faults (inside (row_place r name)) (row_keys (version_in_file tree) r) ms ≡ []
   pub code : row_code network r ms ≡ None
 
-right_row : (network : Bool) (tree : Members) (r : Rows) (name : List ℕ) (ms : Members) → row_faults network tree r name (table ms) ≡ [] → IsRight network tree r name ms
+pub right_row : (network : Bool) (tree : Members) (r : Rows) (name : List ℕ) (ms : Members) → row_faults network tree r name (table ms) ≡ [] → IsRight network tree r name ms
 unfolding row_faults inner_faults
 right_row network tree r name ms e =
     let at = row_place r name in
     let parts = both_nil (fault_unless (is_board_name name) broken.BadValue at) (value_faults network tree r at (table ms)) e in
-    let front = both_nil (keys_faults tree (inside at) ms (row_keys r) ++ stray_faults (inside at) (row_keys r) ms) (fault_at (row_code network r ms) at) parts.1 in
-    let keys = both_nil (keys_faults tree (inside at) ms (row_keys r)) (stray_faults (inside at) (row_keys r) ms) front.0 in
-    record { named = true_from_nil (is_board_name name) broken.BadValue at parts.0; keys = keys.0; code = none_from_nil (row_code network r ms) at front.1 }
+    let rules = row_keys (version_in_file tree) r in
+    let front = both_nil (keys_faults tree (inside at) ms rules ++ stray_faults (inside at) rules ms) (fault_at (row_code network r ms) at) parts.1 in
+    let keys = both_nil (keys_faults tree (inside at) ms rules) (stray_faults (inside at) rules ms) front.0 in
+    record { named = true_from_nil (is_board_name name) broken.BadValue at parts.0; keys = keys.0; strays = keys.1; code = none_from_nil (row_code network r ms) at front.1 }
 
 -- the row at a place is made of the member at this place of the table
 pub record IsFrom {R : Type 0} (means : List ℕ → Members → Option R) (all : Members) (k : ℕ) (row : R) : Type 0 where

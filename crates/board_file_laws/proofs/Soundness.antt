@@ -1,8 +1,6 @@
 -- A board that was read is sound.
-use Rattle.std.proofs.Common.{◌≡◌, ℕ, zero, suc, ◌+◌, ◌*◌, ◌<◌, ◌≤◌, true, not, ◌==◌, List, [], ◌∷◌, ◌++◌, length, slice_get, Option, Some, None, unwrap_or, Less, refl, sym, arith}
-use Rattle.std.proofs.lemmas.List.Sums.{sum_by-cons}
+use Rattle.std.proofs.Common.{◌≡◌, ◌⊎◌, ℕ, ◌<◌, ◌≤◌, true, not, ◌==◌, List, [], ◌∷◌, ◌++◌, length, slice_get, Option, Some, None, unwrap_or, Less, refl, sym, ◌∙◌, subst, arith}
 use Rattle.std.specs.Cmp.Lexicographic.{slice_cmp}
-use Rattle.std.specs.List.{sum_by}
 use Rattle.std.specs.Option.{ok_or}
 use Rattle.std.specs.Ordering.{nat_cmp}
 use Rattle.std.specs.Result.{result_err}
@@ -12,8 +10,8 @@ use Rattle.board_file.proofs.WholeRows.{same_count}
 use Rattle.board_file.specs.Faults.{fault_unless}
 use Rattle.board_file.specs.Keys.{table_key, top_keys}
 use Rattle.board_file.specs.Read.{key_code, table_in, value_code}
-use Rattle.board_file.specs.Rows.{core_row, event_row, link_row, timer_row, uart_row}
-use Rattle.board_file.specs.Rules.{are_few, count_members, is_empty, is_empty_table, is_network, keys_faults, stray_faults, top_faults}
+use Rattle.board_file.specs.Rows.{core_row, event_row, intc_row, link_row, timer_row, uart_row}
+use Rattle.board_file.specs.Rules.{are_few, count_members, is_empty, is_empty_table, is_network, keys_faults, most_cores, most_links, stray_faults, top_faults, version_in_file}
 use Rattle.board_file.specs.Tree.{are_ascending, at_key, members_in, rows_in, table_place}
 use Rattle.board_file.specs.declared.board.CoreRow.{CoreRow}
 use Rattle.board_file.specs.declared.fault.BoardRule.{BoardRule}
@@ -28,9 +26,11 @@ use Rattle.board_file_laws.proofs.Files.{IsFromTree, apart_kinds, fresh_link, fr
 use Rattle.board_file_laws.proofs.Origins.{IsFrom, origin}
 use Rattle.board_file_laws.proofs.Lone.{lone_get, lone_put}
 use Rattle.board_file_laws.proofs.Names.{ascend}
-use Rattle.board_file_laws.proofs.Numbers.{core_clock, core_memory, core_name, link_depth, link_name, timer_input, uart_input, uart_turn}
+use Rattle.board_file_laws.proofs.Memories.{affordable, memories_sum}
+use Rattle.board_file_laws.proofs.Numbers.{core_clock, core_memory, core_name, intc_clock, intc_device, link_depth, link_name, timer_clock, timer_device, timer_input, uart_clock, uart_device, uart_input, uart_turn}
 use Rattle.board_file_laws.proofs.Parts.{first_key, whole}
-use Rattle.board_file_laws.specs.Sound.{IsBefore, IsMemory, ReadIsSound}
+use Rattle.board_file_laws.proofs.Versions.{all_cores, all_links, few_ends, few_rows, first_clock, intc_unclocked, known_version, timer_unclocked, uart_unclocked}
+use Rattle.board_file_laws.specs.Sound.{IsBefore, ReadIsSound}
 
 -- the table of cores is there, and isn't empty
 not_none : (n : ℕ) → not (n == 0) ≡ true → 1 ≤ n
@@ -56,32 +56,9 @@ some_cores tree e =
     let core = first_key tree [] tree key.Core _ _ refl network.1 in
     some_rows tree (at_key key.Core tree) core.0 (true_from_nil _ _ _ last.1)
 
-few_rows : (n : ℕ) → are_few rows.Core n ≡ true → n ≤ 16
+few_serials : (version n : ℕ) → are_few version rows.Uart n ≡ true → n ≤ 64
 unfolding are_few
-few_rows n e = grind arith
-
-few_ends : (n : ℕ) → are_few rows.Link n ≡ true → n ≤ 64
-unfolding are_few
-few_ends n e = grind arith
-
-few_serials : (n : ℕ) → are_few rows.Uart n ≡ true → n ≤ 64
-unfolding are_few
-few_serials n e = grind arith
-
--- 16 memories of at most 64 MiB
-sum_within : (f : CoreRow → ℕ) (m : ℕ) (xs : List CoreRow) → ((k : ℕ) (x : CoreRow) → slice_get xs k ≡ Some x → f x ≤ m) → sum_by f xs ≤ length xs * m
-sum_within f m [] h = omega arith
-sum_within f m (x ∷ xs) h =
-    let first = h zero x refl in
-    let more = sum_within f m xs (λ k y e. h (suc k) y e) in
-    let whole = sum_by-cons f x xs in
-    rw whole (nlinear (f x) (sum_by f xs) (length xs) m first more)
-  where
-    nlinear : (a s n m : ℕ) → a ≤ m → s ≤ n * m → a + s ≤ suc n * m
-    nlinear a s n m g i = omega (arith, g, i)
-
-affordable : (n s : ℕ) → s ≤ n * 67108864 → n ≤ 16 → s ≤ 1073741824
-affordable n s e g = omega (arith, e, g)
+few_serials version n e = grind arith
 
 -- the names of rows ascend as those of their members do
 is_before_too : (m n one other : List ℕ) → m ≡ one → n ≡ other → slice_cmp nat_cmp m n ≡ Less → IsBefore one other
@@ -102,18 +79,22 @@ read_is_sound file b h =
     let core_from = origin (core_row []) (rows_in tree rows.Core) b.cores h.is_board.cores in
     let link_from = origin (link_row b.cores) (rows_in tree rows.Link) b.links h.is_board.links in
     let event_from = origin (event_row b.cores) (rows_in tree rows.Event) b.events h.is_board.events in
+    let intc_from = origin (intc_row b.cores) (rows_in tree rows.Intc) b.intcs h.is_board.intcs in
     let timer_from = origin (timer_row b.cores) (rows_in tree rows.Timer) b.timers h.is_board.timers in
     let uart_from = origin (uart_row b.cores) (rows_in tree rows.Uart) b.uarts h.is_board.uarts in
     let from : IsFromTree tree b = record { cores = core_from; links = link_from; uarts = uart_from } in
     let lone_links : AreLoneLinks b.links = lone_link (is_network tree) tree b parts.files from (h.ascends rows.Link) parts.links.rows in
-    let few_cores = rw (sym cores) at (few_rows _ parts.cores.few) in
-    let memories : (k : ℕ) (core : CoreRow) → slice_get b.cores k ≡ Some core → IsMemory core.memory = λ k core e. let o = core_from k core e in core_memory [] o.name o.members core o.made in
+    let version = h.is_board.version in
+    let few_cores : length b.cores ≤ most_cores (version_in_file tree) = rw (sym cores) at (few_rows (version_in_file tree) _ parts.cores.few) in
+    let few_links : length b.links ≤ most_links (version_in_file tree) = rw (sym links) at (few_ends (version_in_file tree) _ parts.links.few) in
     record {
-      few_cores = (rw (sym cores) at (some_cores tree parts.top), few_cores);
-      few_links = rw (sym links) at (few_ends _ parts.links.few);
+      known_version = subst (λ n. (n ≡ 1) ⊎ (n ≡ 2)) (sym version) (known_version tree);
+      few_cores = (rw (sym cores) at (some_cores tree parts.top), all_cores _ _ few_cores);
+      few_links = all_links _ _ few_links;
+      in_version = subst (λ n. (length b.cores ≤ most_cores n) × (length b.links ≤ most_links n)) (sym version) (few_cores, few_links);
       clocks = λ k core e. let o = core_from k core e in core_clock [] o.name o.members core o.made;
-      memories = memories;
-      total = affordable (length b.cores) _ (sum_within (λ core. core.memory) 67108864 b.cores (λ k core e. (memories k core e).1)) few_cores;
+      memories = λ k core e. let o = core_from k core e in core_memory [] o.name o.members core o.made;
+      total = affordable _ _ (memories_sum (is_network tree) tree (rows_in tree rows.Core) b.cores h.is_board.cores parts.cores.rows) parts.sum;
       depths = λ k link e. let o = link_from k link e in link_depth b.cores o.name o.members link o.made;
       ports = λ k link e. let o = link_from k link e in (from_port b.cores o.name o.members link o.made, to_port b.cores o.name o.members link o.made);
       one_file = λ k link f g e from to.
@@ -121,10 +102,26 @@ read_is_sound file b h =
           let right = o.right (is_network tree) tree rows.Link parts.links.rows in
           not_two_files (is_network tree) b.cores o.name o.members link f g o.made right.code from to;
       events = λ k event e. let o = event_from k event e in event_there b.cores o.name o.members event o.made;
-      few_uarts = rw (sym uarts) at (few_serials _ parts.uarts.few);
+      few_uarts = rw (sym uarts) at (few_serials _ _ parts.uarts.few);
       timer_inputs = λ k timer e. let o = timer_from k timer e in timer_input b.cores o.name o.members timer o.made;
       uart_inputs = λ k uart e. let o = uart_from k uart e in uart_input b.cores o.name o.members uart o.made;
       uart_turns = λ k uart e. let o = uart_from k uart e in uart_turn b.cores o.name o.members uart o.made;
+      timer_clocks = λ k timer e. let o = timer_from k timer e in timer_clock b.cores o.name o.members timer o.made;
+      intc_clocks = λ k intc e. let o = intc_from k intc e in intc_clock b.cores o.name o.members intc o.made;
+      uart_clocks = λ k uart e. let o = uart_from k uart e in uart_clock b.cores o.name o.members uart o.made;
+      first_clocks = λ first.
+          let is : version_in_file tree ≡ 1 = sym version ∙ first in
+          record {
+            timers = λ k timer e.
+                let o = timer_from k timer e in
+                sym (timer_device b.cores o.name o.members timer o.made) ∙ first_clock _ rows.Timer _ o.members timer_unclocked is (o.right (is_network tree) tree rows.Timer parts.timers.rows).strays;
+            intcs = λ k intc e.
+                let o = intc_from k intc e in
+                sym (intc_device b.cores o.name o.members intc o.made) ∙ first_clock _ rows.Intc _ o.members intc_unclocked is (o.right (is_network tree) tree rows.Intc parts.intcs.rows).strays;
+            uarts = λ k uart e.
+                let o = uart_from k uart e in
+                sym (uart_device b.cores o.name o.members uart o.made) ∙ first_clock _ rows.Uart _ o.members uart_unclocked is (o.right (is_network tree) tree rows.Uart parts.uarts.rows).strays;
+          };
       lone_puts = λ j k one other core port e f from also.
           let a = link_from j one e in
           let o = link_from k other f in

@@ -1,19 +1,21 @@
 -- What a board that was read always keeps.
-use Rattle.std.specs.Prelude.{◌≡◌, ◌≢◌, ℕ, ◌<◌, ◌≤◌, ◌%◌, List, [], ◌∷◌, ◌++◌, flat_map, length, slice_get, IfSome, Option, Some, true}
+use Rattle.std.specs.Prelude.{◌≡◌, ◌≢◌, ◌⊎◌, ℕ, ◌<◌, ◌≤◌, ◌%◌, List, [], ◌∷◌, ◌++◌, flat_map, length, slice_get, IfSome, Option, Some, true}
 use Rattle.std.specs.Cmp.Lexicographic.{slice_cmp}
 use Rattle.std.specs.List.{sum_by}
 use Rattle.std.specs.Ordering.{is_lt, nat_cmp}
 use Rattle.board_file.specs.Board.{IsRead}
+use Rattle.board_file.specs.Rules.{most_cores, most_links}
 use Rattle.board_file.specs.declared.board.BoardFile.{BoardFile}
 use Rattle.board_file.specs.declared.board.CoreRow.{CoreRow}
 use Rattle.board_file.specs.declared.board.End.{End}
 use Rattle.board_file.specs.declared.board.End.TheVariants.{Port, File}
 use Rattle.board_file.specs.declared.board.EventRow.{EventRow}
+use Rattle.board_file.specs.declared.board.IntcRow.{IntcRow}
 use Rattle.board_file.specs.declared.board.LinkRow.{LinkRow}
 use Rattle.board_file.specs.declared.board.TimerRow.{TimerRow}
 use Rattle.board_file.specs.declared.board.UartRow.{UartRow}
 
--- a core ticks, and a UART moves, at least in each 1,000,000th cycle
+-- a core ticks, and a device moves, at least in each 1,000,000th cycle; a UART's `every` and its clock are so each
 abbrev pub IsClock : ℕ → Type 0
 IsClock n = (1 ≤ n) × (n ≤ 1000000)
 
@@ -65,11 +67,19 @@ pub record IsFresh (b : BoardFile) (file : List ℕ) : Type 0 where
   pub no_input : (k : ℕ) (link : LinkRow) → slice_get b.links k ≡ Some link → link.from ≢ File file
   pub no_feed : (k : ℕ) (uart : UartRow) → slice_get b.uarts k ≡ Some uart → uart.input ≢ Some file
 
+-- each device moves in each cycle
+pub record AreUnclocked (b : BoardFile) : Type 0 where
+  pub timers : (k : ℕ) (timer : TimerRow) → slice_get b.timers k ≡ Some timer → timer.clock ≡ 1
+  pub intcs : (k : ℕ) (intc : IntcRow) → slice_get b.intcs k ≡ Some intc → intc.clock ≡ 1
+  pub uarts : (k : ℕ) (uart : UartRow) → slice_get b.uarts k ≡ Some uart → uart.clock ≡ 1
+
 -- what holds of a board that was read
 pub record IsSound (b : BoardFile) : Type 0 where
-  -- 1 to 16 cores, and at most 64 links
-  pub few_cores : (1 ≤ length b.cores) × (length b.cores ≤ 16)
-  pub few_links : length b.links ≤ 64
+  -- the version is 1 or 2; there are 1 to 64 cores and at most 256 links, and no more than the version lets be
+  pub known_version : (b.version ≡ 1) ⊎ (b.version ≡ 2)
+  pub few_cores : (1 ≤ length b.cores) × (length b.cores ≤ 64)
+  pub few_links : length b.links ≤ 256
+  pub in_version : (length b.cores ≤ most_cores b.version) × (length b.links ≤ most_links b.version)
   -- each clock, memory and depth is in its range, and the memories together have at most 1 GiB
   pub clocks : (k : ℕ) (core : CoreRow) → slice_get b.cores k ≡ Some core → IsClock core.clock
   pub memories : (k : ℕ) (core : CoreRow) → slice_get b.cores k ≡ Some core → IsMemory core.memory
@@ -86,6 +96,11 @@ pub record IsSound (b : BoardFile) : Type 0 where
   pub timer_inputs : (k : ℕ) (timer : TimerRow) → slice_get b.timers k ≡ Some timer → IsInput timer.irq
   pub uart_inputs : (k : ℕ) (uart : UartRow) → slice_get b.uarts k ≡ Some uart → IsInput uart.irq
   pub uart_turns : (k : ℕ) (uart : UartRow) → slice_get b.uarts k ≡ Some uart → IsClock uart.every
+  -- the clock of each device is in its range, and 1 in version 1
+  pub timer_clocks : (k : ℕ) (timer : TimerRow) → slice_get b.timers k ≡ Some timer → IsClock timer.clock
+  pub intc_clocks : (k : ℕ) (intc : IntcRow) → slice_get b.intcs k ≡ Some intc → IsClock intc.clock
+  pub uart_clocks : (k : ℕ) (uart : UartRow) → slice_get b.uarts k ≡ Some uart → IsClock uart.clock
+  pub first_clocks : b.version ≡ 1 → AreUnclocked b
   -- two links that begin, or end, at one port of a core are one link
   pub lone_puts : (j k : ℕ) (one other : LinkRow) (core port : ℕ) → slice_get b.links j ≡ Some one → slice_get b.links k ≡ Some other → one.from ≡ Port core port → other.from ≡ Port core port → j ≡ k
   pub lone_gets : (j k : ℕ) (one other : LinkRow) (core port : ℕ) → slice_get b.links j ≡ Some one → slice_get b.links k ≡ Some other → one.to ≡ Port core port → other.to ≡ Port core port → j ≡ k
