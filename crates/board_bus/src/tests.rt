@@ -13,18 +13,23 @@ const UART: u32 = 0x4060_0000;
 
 /// A timer at input 0, a controller and a UART at input 1 on the bus of core 0. These bytes are to come to the UART.
 fn bus_of(alloc: Global, bytes: &[u8]) -> Result<Bus, Fail> {
+    clocked(alloc, bytes, 1, 1)
+}
+
+/// The same where the timer and the UART have the first clock, and the controller has the second.
+fn clocked(alloc: Global, bytes: &[u8], clock: u32, intc_clock: u32) -> Result<Bus, Fail> {
     let timers = [TimerRow {
         name: Name::from_text("t").ok_or("a name")?,
         core: 0,
         base: TIMER,
         irq: Some(0),
-        clock: 1,
+        clock,
     }];
     let intcs = [IntcRow {
         name: Name::from_text("i").ok_or("a name")?,
         core: 0,
         base: INTC,
-        clock: 1,
+        clock: intc_clock,
     }];
     let uarts = [UartRow {
         name: Name::from_text("u").ok_or("a name")?,
@@ -34,7 +39,7 @@ fn bus_of(alloc: Global, bytes: &[u8]) -> Result<Bus, Fail> {
         irq: Some(1),
         input: FileName::from_text("in"),
         every: 2,
-        clock: 1,
+        clock,
     }];
     let inputs = [Blob::from_vec(Vec::from_slice(alloc, bytes)?)];
     Ok(
@@ -148,5 +153,47 @@ fn devices_rest_unless_a_timer_counts(rt: HostRuntime) -> Result<(), Fail> {
     assert_eq!(rt; bus.write(0, INTC + 0x0C, 1), Ok(0));
     assert_eq!(rt; bus.line(0), false);
     assert_eq!(rt; bus.is_at_rest(), true);
+    Ok(())
+}
+
+/// Expected: a timer or controller moves where its clock divides the cycle, and a UART where `every` times its clock does.
+#[test]
+fn a_device_moves_where_its_clock_divides_the_cycle(rt: HostRuntime) -> Result<(), Fail> {
+    let mut bus = clocked(rt.alloc(), &[], 3, 1)?;
+    for byte in [0x48, 0x69] {
+        assert_eq!(rt; bus.write(0, UART + 4, byte), Ok(0));
+    }
+    for (offset, word) in [(4, 2), (0, 0x20)] {
+        assert_eq!(rt; bus.write(0, TIMER + offset, word), Ok(0), "at {offset}");
+    }
+    assert_eq!(rt; step(&mut bus, 3), None);
+    assert_eq!(rt; bus.write(0, TIMER, 0x82), Ok(0));
+    for (cycle, counted, left) in [
+        (4, 2, None),
+        (5, 2, None),
+        (6, 1, Some(0x48)),
+        (8, 1, None),
+        (12, 0, Some(0x69)),
+    ] {
+        assert_eq!(rt; step(&mut bus, cycle), left, "cycle {cycle}");
+        assert_eq!(rt; bus.read(0, TIMER + 8), Ok(counted), "cycle {cycle}");
+    }
+    Ok(())
+}
+
+/// Expected: an edge is held up to the next move of the controller, which sees one high input, and is then gone.
+#[test]
+fn an_edge_is_held_to_the_move_of_the_controller(rt: HostRuntime) -> Result<(), Fail> {
+    let mut bus = clocked(rt.alloc(), &[], 1, 5)?;
+    assert_eq!(rt; enable(&mut bus, 2), true);
+    assert_eq!(rt; bus.write(0, UART + 0xC, 0x10), Ok(0));
+    assert_eq!(rt; bus.write(0, UART + 4, 0x48), Ok(0));
+    for (cycle, left, high) in [(2, Some(0x48), false), (4, None, false), (5, None, true)] {
+        assert_eq!(rt; step(&mut bus, cycle), left, "cycle {cycle}");
+        assert_eq!(rt; bus.line(0), high, "cycle {cycle}");
+    }
+    assert_eq!(rt; bus.write(0, INTC + 0x0C, 2), Ok(0));
+    assert_eq!(rt; step(&mut bus, 10), None);
+    assert_eq!(rt; bus.line(0), false);
     Ok(())
 }

@@ -67,6 +67,47 @@ link l sent 2 taken 2
     check(&rt, rt.alloc(), &three)
 }
 
+/// The first of these boards, but the timer moves in each third cycle.
+const TIMED_SLOWLY: &str = "
+core.c = {image = 'a.elf', pipeline = 'plain'}
+intc.i = {core = 'c', base = 0x41200000}
+timer.t = {core = 'c', base = 0x41C00000, irq = 0, clock = 3}
+link.l = {from = 'c', from_port = 0, to_file = 'out'}
+";
+
+#[test]
+fn a_timer_moves_where_its_clock_divides_the_cycle(rt: HostRuntime) -> Result<(), Fail> {
+    let slow = Row {
+        head: "version = 2",
+        words: LOGGED,
+        parts: TIMED_SLOWLY,
+        images: [INTERRUPTED, ""],
+        printed: "status 0 cycles 22 entries 11
+core c ended pc 00000018 acts 21
+link l sent 2 taken 2
+",
+        left: [
+            Some(&[0, 0x12, 0x34, 0x56, 0x78, 0, 0, 0, 0, 0x80]),
+            Some(
+                b"7 c 7 wrote 41200008 00000001
+8 c 8 wrote 4120001C 00000003
+9 c 9 wrote 41C00004 00000001
+11 c 11 wrote 41C00000 00000020
+14 c 14 wrote 41C00000 000000D2
+18 c 18 lineup
+18 c 18 took interrupt
+19 c 19 sent 0 0 12345678
+20 - 0 hostgot l 0 12345678
+20 c 20 sent 0 0 00000080
+21 - 0 hostgot l 0 00000080
+",
+            ),
+        ],
+        ..Row::relay()
+    };
+    check(&rt, rt.alloc(), &slow)
+}
+
 /// A UART whose bytes go to the file `out`, moving at its own pace.
 const PRINTER: &str = "
 core.c = {image = 'a.elf', pipeline = 'plain'}
