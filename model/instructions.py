@@ -229,6 +229,9 @@ TABLE = [
     ("srl",       "U",  0x24, 0x0041,       shifts_by_one(lambda core, i: 0)),
     ("sext8",     "U",  0x24, 0x0060,       result(lambda i: signed(i.a, 8))),
     ("sext16",    "U",  0x24, 0x0061,       result(lambda i: signed(i.a, 16))),
+    ("clz",       "U",  0x24, 0x00E0,       result(lambda i: 32 - i.a.bit_length())),
+    ("swapb",     "U",  0x24, 0x01E0,       result(lambda i: int.from_bytes(i.a.to_bytes(4, "little"), "big"))),
+    ("swaph",     "U",  0x24, 0x01E2,       result(lambda i: i.a << 16 | i.a >> 16)),
     ("wdc",       "CR", 0x24, 0x0064,       nothing),
     ("wdc.clear", "CR", 0x24, 0x0066,       nothing),
     ("wic",       "CR", 0x24, 0x0068,       nothing),
@@ -303,7 +306,7 @@ TABLE = [
     ("shi",       "B",  0x3D, 0,            stores(2)),
     ("swi",       "B",  0x3E, 0,            stores(4)),
 ]
-assert len(TABLE) == 120
+assert len(TABLE) == 123
 
 ROWS = [(name, form, (opcode << 26) + rest) for name, form, opcode, rest, _ in TABLE]
 EFFECTS = {name: effect for name, _, _, _, effect in TABLE}

@@ -16,7 +16,7 @@ from instructions import FIELDS
 END, NOTHING = 0xB8000000, 0x80000000
 ROWS = {name: (form, bits) for name, form, bits in core.ROWS}
 SUMS = ("add rsub addc addk addik rsubik addic cmp cmpu mul mulhu muli bsrl bsra bslli bsrai idiv idivu or xori andi pcmpbf pcmpne sra src "
-        "sext8 wdc wic").split()
+        "sext8 clz swapb swaph wdc wic").split()
 BRANCHES = "beqid bneid bltid bgeid brid beqi bgti".split()
 HANDLER = 0x900  # of interrupts
 # the words from 10 hex on: an interrupt's vector, a break's, and a handler that sends the cause and goes on

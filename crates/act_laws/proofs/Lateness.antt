@@ -28,7 +28,7 @@ use Rattle.op_table.specs.declared.kinds.Latency.{Latency}
 use Rattle.isa_step.specs.declared.acts.Operands.{Operands}
 use Rattle.isa_step.specs.declared.operands.Given.{Given}
 use Rattle.op_table.specs.declared.kinds.Kind.{Kind}
-use Rattle.op_table.specs.declared.kinds.Kind.TheVariants.{Add, Rsub, Compare, Multiply, Shift, Divide, Logic, FirstEqualByte, IsEqual, ShiftByOne, ExtendSign, MoveFrom, SetMsr, ClearMsr, Branch, Break, BranchIf, Barrier, Load, Store, Get, Put}
+use Rattle.op_table.specs.declared.kinds.Kind.TheVariants.{Add, Rsub, Compare, Multiply, Shift, Divide, Logic, FirstEqualByte, IsEqual, ShiftByOne, Unary, MoveFrom, SetMsr, ClearMsr, Branch, Break, BranchIf, Barrier, Load, Store, Get, Put}
 use Rattle.op_table.specs.Table.{kind_of}
 use Rattle.isa_step.specs.Effects.{Effect, Due, Does, Ends, Request, Goes, HaltLoop, Gets, Puts, Reads, Writes, faults, raises, retires, stops}
 use Rattle.isa_step.specs.Due.{awake, by_item, by_room, due_by, due_with, is_closed, reply, take_due}
@@ -116,7 +116,7 @@ own_effect (Logic k) g a = own_rd _ g _ _ refl refl refl
 own_effect FirstEqualByte g a = own_rd _ g _ _ refl refl refl
 own_effect (IsEqual wanted) g a = own_rd _ g _ _ refl refl refl
 own_effect (ShiftByOne top) g a = own_rd _ g _ _ refl refl refl
-own_effect (ExtendSign part) g a = own_rd _ g _ _ refl refl refl
+own_effect (Unary k) g a = own_rd _ g _ _ refl refl refl
 own_effect (MoveFrom special) g a = own_rd _ g _ _ refl refl refl
 own_effect SetMsr g a = own_rd _ g _ _ refl refl refl
 own_effect ClearMsr g a = own_rd _ g _ _ refl refl refl

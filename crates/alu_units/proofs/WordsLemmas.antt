@@ -1,13 +1,13 @@
 -- Orders, differences and sign extensions of words.
-use Rattle.std.proofs.Common.{◌≡◌, ℕ, ◌+◌, ◌-◌, ◌*◌, ◌%◌, ◌^◌, ◌<◌, ◌≤◌, Bool, true, false, sym, ◌∙◌, inl, inr, refl, ap, arith, pos, negsuc, ◌-ℤ◌}
-use Rattle.std.specs.Prelude.{int_lt, nat_le, bit_and}
+use Rattle.std.proofs.Common.{◌≡◌, ℕ, ◌+◌, ◌-◌, ◌*◌, ◌/◌, ◌%◌, ◌^◌, ◌<◌, ◌≤◌, Bool, true, false, sym, ◌∙◌, inl, inr, refl, ap, arith, pos, negsuc, ◌-ℤ◌}
+use Rattle.std.specs.Prelude.{int_lt, nat_le, bit_and, bit_or}
 use Rattle.std.specs.Int.{from_bool}
-use Rattle.std.proofs.lemmas.Nat.{and_mask}
+use Rattle.std.proofs.lemmas.Nat.{and_mask, or_shifted}
 use Rattle.std.proofs.lemmas.Int.{ints}
 use Rattle.std.proofs.lemmas.Bool.{cases_Bool, leb-true, leb-false, le-leb, lt-leb, lt-ltb, le-ltb}
 use Rattle.mb_word.specs.Word.{is_negative, less_signed, sign_extend_16, signed}
 use Rattle.alu_units.specs.Integers.{signed_value, value_of, word_of}
-use Rattle.alu_units.specs.Units.{compared, sign_extended}
+use Rattle.alu_units.specs.Units.{compared, sign_extended, swapped_halves}
 use Rattle.alu_units.proofs.IntegersLemmas.{negative_is, positive_is, word_is}
 
 -- a word in two's complement is the integer that it stands for
@@ -50,3 +50,10 @@ half a =
       | inl high ↦ rw high (sym (extended (2 ^ 16) (a % 2 ^ 16) (omega arith) (omega arith)))
       | inr low ↦ rw low (omega arith)
     ]
+
+-- a word turned round by 16 bits
+pub turned : (a : ℕ) → a < 2 ^ 32 → bit_or (a * 2 ^ 16 % 2 ^ 32) (a / 2 ^ 16) ≡ swapped_halves a
+unfolding swapped_halves
+turned a word =
+    let high : a * 2 ^ 16 % 2 ^ 32 ≡ a % 2 ^ 16 * 2 ^ 16 = omega arith in
+    ap (λ x. bit_or x (a / 2 ^ 16)) high ∙ or_shifted (a % 2 ^ 16) 16 (a / 2 ^ 16) (omega (arith, word))

@@ -1,7 +1,7 @@
 -- What each arithmetic unit computes, as an equation over integers and modulo 2 ^ 32 (UG984, "MicroBlaze Instructions").
-use Rattle.std.specs.Prelude.{ℕ, ◌+◌, ◌-◌, ◌*◌, ◌/◌, ◌%◌, ◌^◌, Bool, ◌==◌, pos, ◌-ℤ◌, ◌*ℤ◌, int_lt, unwrap_or, bit_and, bit_or, bit_xor}
+use Rattle.std.specs.Prelude.{ℕ, ◌+◌, ◌-◌, ◌*◌, ◌/◌, ◌%◌, ◌^◌, Bool, ◌==◌, nat_le, pos, ◌-ℤ◌, ◌*ℤ◌, int_lt, unwrap_or, bit_and, bit_or, bit_xor}
 use Rattle.std.specs.Int.{to_be_bytes, w32}
-use Rattle.std.specs.List.{position_from, zip}
+use Rattle.std.specs.List.{find, position_from, range_with_len, zip}
 use Rattle.mb_word.specs.Word.{bit_of}
 use Rattle.alu_units.specs.Integers.{signed_bits, signed_value, value_of, word_of, floor_shift, high_word}
 use Rattle.op_table.specs.declared.kinds.LogicKind.{LogicKind}
@@ -10,6 +10,8 @@ use Rattle.op_table.specs.declared.kinds.MulKind.{MulKind}
 use Rattle.op_table.specs.declared.kinds.MulKind.TheVariants.{Low, High, HighSu, HighU}
 use Rattle.op_table.specs.declared.kinds.ShiftKind.{ShiftKind}
 use Rattle.op_table.specs.declared.kinds.ShiftKind.TheVariants.{Left, Right, Arith}
+use Rattle.op_table.specs.declared.kinds.UnaryKind.{UnaryKind}
+use Rattle.op_table.specs.declared.kinds.UnaryKind.TheVariants.{ExtendByte, ExtendHalf, CountZeros, SwapBytes, SwapHalves}
 
 -- a word with all its bits turned round
 abbrev pub complement : ℕ → ℕ
@@ -50,6 +52,30 @@ low_bit a = a % 2 == 1
 -- sext8, sext16: the lowest n bits with their sign
 unfoldable pub sign_extended : ℕ → ℕ → ℕ
 sign_extended n a = word_of (signed_bits n (a % 2 ^ n))
+
+-- clz: the first n from 0 on for which the word reaches 2 ^ (31 - n), the worth of the bit n places below the top; 32 in 0
+unfoldable pub leading_zeros : ℕ → ℕ
+leading_zeros a = unwrap_or (find (λ n. nat_le (2 ^ (31 - n)) a) (range_with_len 0 32)) 32
+
+-- a byte of a word, counted from the low end
+abbrev pub byte_of : ℕ → ℕ → ℕ
+byte_of k a = a / 2 ^ (8 * k) % 2 ^ 8
+
+-- swapb: the low byte becomes the highest, and so on
+unfoldable pub reversed_bytes : ℕ → ℕ
+reversed_bytes a = byte_of 0 a * 2 ^ 24 + byte_of 1 a * 2 ^ 16 + byte_of 2 a * 2 ^ 8 + byte_of 3 a
+
+-- swaph: the low half becomes the high one, and the high half the low one
+unfoldable pub swapped_halves : ℕ → ℕ
+swapped_halves a = a % 2 ^ 16 * 2 ^ 16 + a / 2 ^ 16
+
+-- what an instruction of one register makes of it
+unfoldable pub unary_of : UnaryKind → ℕ → ℕ
+unary_of ExtendByte a = sign_extended 8 a
+unary_of ExtendHalf a = sign_extended 16 a
+unary_of CountZeros a = leading_zeros a
+unary_of SwapBytes a = reversed_bytes a
+unary_of SwapHalves a = swapped_halves a
 
 -- pcmpbf: the number, from 1 on, of the first byte from the top that is equal in both words; 0 where none is
 unfoldable pub first_equal_byte : ℕ → ℕ → ℕ

@@ -1,7 +1,7 @@
 //! The arithmetic units of a MicroBlaze core (UG984), each equal to its equation.
 //!
 //! Operands come in the order of the instructions: `a` is rA, `b` is rB or the immediate. `adder`, `logic`, `compare` and
-//! the like are one function of words each; `multiply` and `barrel` have a kind that says which product or shift; a
+//! the like are one function of words each; `multiply`, `barrel` and `unary` have a kind that says which; a
 //! `Divider` divides in 32 steps, and `divide` at once, with a `DivFault` where there is no right quotient.
 //!
 //! ```text
@@ -20,7 +20,10 @@ mod words;
 
 pub use divider::{Divider, Quotient, divide};
 pub use faults::DivFault;
-pub use op_table::{LogicKind, MulKind, ShiftKind};
+pub use op_table::{LogicKind, MulKind, ShiftKind, UnaryKind};
 pub use products::multiply;
 pub use shifts::{Shifted, barrel, sra, src, srl};
-pub use words::{adder, compare, logic, pattern, pcmpeq, pcmpne, sext8, sext16};
+pub use words::{
+    adder, compare, count_zeros, logic, pattern, pcmpeq, pcmpne, sext8, sext16, swap_bytes,
+    swap_halves, unary,
+};

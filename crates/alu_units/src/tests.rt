@@ -3,8 +3,9 @@
 ghost use Rattle.std.specs.Prelude.{◌<◌};
 
 use crate::{
-    DivFault, Divider, LogicKind, MulKind, Quotient, ShiftKind, adder, barrel, compare, divide,
-    logic, multiply, pattern, pcmpeq, pcmpne, sext8, sext16, sra, src, srl,
+    DivFault, Divider, LogicKind, MulKind, Quotient, ShiftKind, UnaryKind, adder, barrel, compare,
+    count_zeros, divide, logic, multiply, pattern, pcmpeq, pcmpne, sext8, sext16, sra, src, srl,
+    swap_bytes, swap_halves, unary,
 };
 use std::process::Abort;
 
@@ -388,6 +389,49 @@ fn extends_signs(rt: HostRuntime) {
     assert_eq!(rt; sext8(0x0000_0080), 0xFFFF_FF80);
     assert_eq!(rt; sext16(0x1234_7FFF), 0x0000_7FFF);
     assert_eq!(rt; sext16(0x0000_8000), 0xFFFF_8000);
+}
+
+/// Expected: 32 for 0, and n for the word whose highest bit that is set is bit n from the top.
+#[test]
+fn counts_leading_zeros(rt: HostRuntime) {
+    for (word, zeros) in [
+        (0, 32u32),
+        (1, 31),
+        (2, 30),
+        (3, 30),
+        (0x0000_FFFF, 16),
+        (0x0001_0000, 15),
+        (0x7FFF_FFFF, 1),
+        (0x8000_0000, 0),
+        (0xFFFF_FFFF, 0),
+    ] {
+        assert!(rt; count_zeros(word) == zeros, "{word}");
+    }
+}
+
+#[test]
+fn turns_words_round(rt: HostRuntime) {
+    assert_eq!(rt; swap_bytes(0x1122_3344), 0x4433_2211);
+    assert_eq!(rt; swap_bytes(0x0000_0001), 0x0100_0000);
+    assert_eq!(rt; swap_bytes(0x8000_0000), 0x0000_0080);
+    assert_eq!(rt; swap_halves(0x1122_3344), 0x3344_1122);
+    assert_eq!(rt; swap_halves(0x0000_0001), 0x0001_0000);
+    assert_eq!(rt; swap_halves(0x8000_0000), 0x0000_8000);
+}
+
+/// Expected: what each instruction of one register makes of 0080FF80 hex.
+#[test]
+fn each_kind_of_one_word(rt: HostRuntime) {
+    for (kind, answer) in [
+        (UnaryKind::ExtendByte, 0xFFFF_FF80u32),
+        (UnaryKind::ExtendHalf, 0xFFFF_FF80),
+        (UnaryKind::CountZeros, 8),
+        (UnaryKind::SwapBytes, 0x80FF_8000),
+        (UnaryKind::SwapHalves, 0xFF80_0080),
+    ] {
+        assert!(rt; unary(0x0080_FF80, kind) == answer, "{kind:?}");
+    }
+    assert_eq!(rt; unary(0x0000_7F80, UnaryKind::ExtendHalf), 0x0000_7F80);
 }
 
 /// `idiv`: rB / rA.

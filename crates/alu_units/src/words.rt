@@ -1,11 +1,20 @@
-//! The adder, the comparers, the logic unit, and the extensions of signs.
+//! The adder, the comparers, the logic unit, and what is made of one word.
 ghost use Rattle.alu_units.specs.Integers.{value_of};
-ghost use Rattle.alu_units.specs.Units.{compared, first_equal_byte, logic_of, sign_extended};
+ghost use Rattle.alu_units.specs.Units.{
+  compared,
+  first_equal_byte,
+  leading_zeros,
+  logic_of,
+  reversed_bytes,
+  sign_extended,
+  swapped_halves,
+  unary_of,
+};
 ghost use Rattle.mb_word.specs.Word.{bit_of};
 ghost use Rattle.std.specs.Prelude.{int_lt, not, ◌==◌, ◌≡◌, ◌+◌, ◌*◌, ◌^◌};
 
 use mb_word::{Sum, add_carry, less_signed, sign16};
-use op_table::LogicKind;
+use op_table::{LogicKind, UnaryKind};
 
 /// The sum of two words and a carry (UG984, `add` and, with `a` complemented, `rsub`).
 pub fn adder(a: u32, b: u32, c: bool) -> Sum
@@ -88,4 +97,40 @@ pub fn sext16(a: u32) -> u32
     ensures { result ≡ sign_extended 16 a }
 {
     sign16((a & 0xFFFF) as u16)
+}
+
+/// How many zeros stand above the highest bit that is set, 32 in 0 (UG984, `clz`).
+pub fn count_zeros(a: u32) -> u32
+    ensures { result ≡ leading_zeros a }
+{
+    a.leading_zeros()
+}
+
+/// The bytes in the reverse order (UG984, `swapb`).
+#[tactic(auto, unfolding(crate::specs::Units::reversed_bytes))]
+pub fn swap_bytes(a: u32) -> u32
+    ensures { result ≡ reversed_bytes a }
+{
+    a.swap_bytes()
+}
+
+/// The halves in the reverse order (UG984, `swaph`).
+pub fn swap_halves(a: u32) -> u32
+    ensures { result ≡ swapped_halves a }
+{
+    a.rotate_left(16)
+}
+
+/// What an instruction of one register makes of it (UG984, `sext8`, `sext16`, `clz`, `swapb`, `swaph`).
+#[tactic(auto, unfolding(crate::specs::Units::unary_of))]
+pub fn unary(a: u32, k: UnaryKind) -> u32
+    ensures { result ≡ unary_of k a }
+{
+    match k {
+        UnaryKind::ExtendByte => sext8(a),
+        UnaryKind::ExtendHalf => sext16(a),
+        UnaryKind::CountZeros => count_zeros(a),
+        UnaryKind::SwapBytes => swap_bytes(a),
+        UnaryKind::SwapHalves => swap_halves(a),
+    }
 }

@@ -7,6 +7,7 @@ use Rattle.std.proofs.lemmas.Option.{get_or_from_slice_get, slice_get_within}
 use Rattle.std.proofs.Common.{drop-cons, Bool}
 use Rattle.op_table.specs.declared.entry.Row.{Row}
 use Rattle.op_table.specs.declared.op.Op.{Op}
+use Rattle.op_table.specs.declared.table.TheConstants.{COUNT}
 use Rattle.op_table.specs.Mnemonics.{text_of}
 use Rattle.op_table.specs.Table.{row_for, rows}
 use Rattle.asm_syntax.specs.Names.{name_of}
@@ -26,11 +27,11 @@ find_here p k r is passes = ap (find p) (here rows k r is) ∙ rw passes refl
 pub find_later : (p : Row → Bool) (k : ℕ) (r : Row) → slice_get rows k ≡ Some r → p r ≡ false → find p (drop k rows) ≡ find p (drop (k + 1) rows)
 find_later p k r is fails = ap (find p) (here rows k r is) ∙ rw fails refl
 
-pub count : length rows ≡ 120
+pub count : length rows ≡ COUNT
 unfolding rows
 count = refl
 
-pub find_past : (p : Row → Bool) (k : ℕ) → 120 ≤ k → find p (drop k rows) ≡ None
+pub find_past : (p : Row → Bool) (k : ℕ) → COUNT ≤ k → find p (drop k rows) ≡ None
 find_past p k past = ap (find p) (drop_all k rows (rw count past))
 
 pub named_here : (word : List ℕ) (k flags : ℕ) (r : Row) → slice_get rows k ≡ Some r → letters_in word r ≡ Some flags → named_in (drop k rows) word ≡ Some (record { op = r.op; flags = flags; bare = false })
@@ -41,7 +42,7 @@ pub named_later : (word : List ℕ) (k : ℕ) (r : Row) → slice_get rows k ≡
 unfolding named_in
 named_later word k r is none = ap (λ rs. named_in rs word) (here rows k r is) ∙ rw none refl
 
-pub named_past : (word : List ℕ) (k : ℕ) → 120 ≤ k → named_in (drop k rows) word ≡ alias word
+pub named_past : (word : List ℕ) (k : ℕ) → COUNT ≤ k → named_in (drop k rows) word ≡ alias word
 unfolding named_in
 named_past word k past = ap (λ rs. named_in rs word) (drop_all k rows (rw count past))
 

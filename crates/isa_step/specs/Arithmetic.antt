@@ -13,8 +13,6 @@ use Rattle.trap_entry.specs.declared.cause.Cause.TheVariants.{DivideZero, Divide
 use Rattle.isa_step.specs.declared.operands.Given.{Given}
 use Rattle.op_table.specs.declared.kinds.TopBit.{TopBit}
 use Rattle.op_table.specs.declared.kinds.TopBit.TheVariants as top
-use Rattle.op_table.specs.declared.kinds.Width.{Width}
-use Rattle.op_table.specs.declared.kinds.Width.TheVariants as width
 use Rattle.isa_step.specs.Effects.{Effect, retires, yields, raises}
 
 -- C becomes the carry out, but where it is kept
@@ -62,8 +60,3 @@ top_bit top.Zero a x = false
 abbrev pub shifts_by_one : Given → Arch → TopBit → Effect
 shifts_by_one g a top =
     retires g (with_flag (advanced a false) msr_c (low_bit g.a)) None (write_of g.rd (shifted_in (top_bit top a g.a) g.a))
-
--- sext8, sext16
-abbrev pub bits_of : Width → ℕ
-bits_of width.Byte = 8
-bits_of width.Half = 16

@@ -3,7 +3,7 @@ use Rattle.std.specs.Prelude.{ℕ, ◌%◌, ◌&&◌, ◌==◌, Bool, true, fals
 use Rattle.core_regs.specs.declared.registers.Arch.{Arch}
 use Rattle.core_regs.specs.declared.causes.StopCause.TheVariants as stop
 use Rattle.core_regs.specs.State.{reg}
-use Rattle.alu_units.specs.Units.{compared, first_equal_byte, logic_of, product_of, shifted, sign_extended}
+use Rattle.alu_units.specs.Units.{compared, first_equal_byte, logic_of, product_of, shifted, unary_of}
 use Rattle.delay_imm.specs.Slots.{advanced, branched, immediate_of}
 use Rattle.trap_entry.specs.declared.cause.Cause.TheVariants.{InstrBus, Illegal as IllegalWord}
 use Rattle.mb_decode.specs.declared.instruction.Instr.{Instr}
@@ -14,13 +14,13 @@ use Rattle.op_table.specs.declared.kinds.Latency.{Latency}
 use Rattle.isa_step.specs.declared.acts.Operands.{Operands}
 use Rattle.isa_step.specs.declared.operands.Given.{Given}
 use Rattle.op_table.specs.declared.kinds.Kind.{Kind}
-use Rattle.op_table.specs.declared.kinds.Kind.TheVariants.{Add, Rsub, Compare, Multiply, Shift, Divide, Logic, FirstEqualByte, IsEqual, ShiftByOne, ExtendSign, Cache, MoveFrom, MoveToMsr, SetMsr, ClearMsr, Branch, Break, BranchIf, Return, Prefix, Barrier, Load, Store, Get, Put}
+use Rattle.op_table.specs.declared.kinds.Kind.TheVariants.{Add, Rsub, Compare, Multiply, Shift, Divide, Logic, FirstEqualByte, IsEqual, ShiftByOne, Unary, Cache, MoveFrom, MoveToMsr, SetMsr, ClearMsr, Branch, Break, BranchIf, Return, Prefix, Barrier, Load, Store, Get, Put}
 use Rattle.op_table.specs.declared.kinds.Second.{Second}
 use Rattle.op_table.specs.declared.kinds.Second.TheVariants.{Register, Immediate, Count}
 use Rattle.op_table.specs.Table.{kind_of, second_of}
 pub use Rattle.op_table.specs.Kinds.{belongs_into_slot, latency_of}
 use Rattle.isa_step.specs.Effects.{Effect, Request, Goes, HaltLoop, retires, yields, stops, faults}
-use Rattle.isa_step.specs.Arithmetic.{adds, subtracts, divides, equality, shifts_by_one, bits_of}
+use Rattle.isa_step.specs.Arithmetic.{adds, subtracts, divides, equality, shifts_by_one}
 use Rattle.isa_step.specs.Special.{special_value, moves_to_msr, sets_msr, clears_msr, holds_prefix, barrier}
 use Rattle.isa_step.specs.Branches.{branches, breaks_off, branches_if, holds, returns}
 use Rattle.isa_step.specs.Loads.{loads, stores}
@@ -38,7 +38,7 @@ effect_of (Logic k) g a = yields g a (logic_of k g.a g.b)
 effect_of FirstEqualByte g a = yields g a (first_equal_byte g.a g.b)
 effect_of (IsEqual wanted) g a = yields g a (equality g wanted)
 effect_of (ShiftByOne top) g a = shifts_by_one g a top
-effect_of (ExtendSign part) g a = yields g a (sign_extended (bits_of part) g.a)
+effect_of (Unary k) g a = yields g a (unary_of k g.a)
 effect_of (MoveFrom special) g a = yields g a (special_value a special)
 effect_of MoveToMsr g a = moves_to_msr g a
 effect_of SetMsr g a = sets_msr g a

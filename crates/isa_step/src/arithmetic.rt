@@ -3,18 +3,17 @@
 ghost use Rattle.std.specs.Prelude.{◌≡◌, ◌+◌, ◌^◌, ◌*◌};
 ghost use Rattle.core_regs.specs.State.{bare};
 ghost use Rattle.mb_word.specs.Word.{bit_of};
-ghost use Rattle.isa_step.specs.Arithmetic.{adds, bits_of, cause_of, divides, equality, shifts_by_one, subtracts, sums};
+ghost use Rattle.isa_step.specs.Arithmetic.{adds, cause_of, divides, equality, shifts_by_one, subtracts, sums};
 ghost use Rattle.isa_step.specs.Performing.{Makes, NamesGiven, NamesOf};
-ghost use Rattle.alu_units.specs.Units.{sign_extended};
 
 use crate::acts::Done;
 use crate::commit::{into_rd, raise, retire, yields};
 use crate::operands::Given;
-use alu_units::{DivFault, adder, divide, pcmpeq, pcmpne, sext8, sext16, sra, src, srl};
+use alu_units::{DivFault, adder, divide, pcmpeq, pcmpne, sra, src, srl};
 use core_regs::{Arch, Msr};
 use delay_imm::advance;
 use mb_word::Sum;
-use op_table::{TopBit, Width};
+use op_table::TopBit;
 use trap_entry::Cause;
 
 /// rD = a sum, whose carry out goes to C but where it is kept.
@@ -103,14 +102,4 @@ pub fn shifts_by_one(g: &Given, a: &mut Arch, top: TopBit) -> Done
     advance(a, false);
     a.put_flag(Msr::C, shifted.carry);
     retire(g, into_rd(g, shifted.value))
-}
-
-/// `sext8` and `sext16`.
-pub fn extends_sign(part: Width, a: u32) -> u32
-    ensures { result ≡ sign_extended (bits_of part) a }
-{
-    match part {
-        Width::Byte => sext8(a),
-        Width::Half => sext16(a),
-    }
 }

@@ -7,7 +7,7 @@ ghost use Rattle.isa_step.specs.Performing.{Makes, Names, NamesGiven, NamesOf, P
 ghost use Rattle.isa_step.specs.Requests.{effect_of, request_of};
 
 use crate::acts::{Done, Outcome};
-use crate::arithmetic::{adds, divides, equality, extends_sign, shifts_by_one, subtracts};
+use crate::arithmetic::{adds, divides, equality, shifts_by_one, subtracts};
 use crate::branch::{branches, branches_if, breaks_off, holds, returns};
 use crate::commit::{retire, yields};
 use crate::memory::{loads, stores};
@@ -15,7 +15,7 @@ use crate::operands::Given;
 use crate::ports::Ports;
 use crate::special::{barrier, clears_msr, holds_prefix, moves_to_msr, sets_msr, special_value};
 use crate::stream::{gets, puts};
-use alu_units::{barrel, compare, logic, multiply, pattern};
+use alu_units::{barrel, compare, logic, multiply, pattern, unary};
 use byte_mem::Memory;
 use core_regs::Arch;
 use delay_imm::advance;
@@ -39,7 +39,7 @@ fn compute(kind: Kind, g: &Given, a: &mut Arch) -> Done
         Kind::FirstEqualByte => yields(g, a, pattern(g.a, g.b)),
         Kind::IsEqual { wanted } => yields(g, a, equality(g, wanted)),
         Kind::ShiftByOne(top) => shifts_by_one(g, a, top),
-        Kind::ExtendSign(part) => yields(g, a, extends_sign(part, g.a)),
+        Kind::Unary(operation) => yields(g, a, unary(g.a, operation)),
         Kind::MoveFrom(special) => {
             let value = special_value(a, special);
             yields(g, a, value)

@@ -51,6 +51,7 @@ fn sources_are_their_bytes(rt: HostRuntime) {
         ("nop\n.align 8\nx: .word x, -1, 0xFFFFFFFF", 0, b"\x80\x00\x00\x00\x00\x00\x00\x00\x00\x00\x00\x08\xFF\xFF\xFF\xFF\xFF\xFF\xFF\xFF".as_slice(), 20),
         (".org 64\n.half -1, 1\n.byte -1, 2\n.ascii \"a\\n\\\"\"", 64, b"\xFF\xFF\x00\x01\xFF\x02a\n\"".as_slice(), 9),
         ("imm 1\naddik r3, r0, -32768", 0, b"\xB0\x00\x00\x01\x30\x60\x80\x00".as_slice(), 8),
+        ("clz r4, r3\nswapb r5, r3\nswaph r6, r3", 0, b"\x90\x83\x00\xE0\x90\xA3\x01\xE0\x90\xC3\x01\xE2".as_slice(), 12),
         ("addik r3, r0, 0xFFFFFFFF", 0, b"\xB0\x00\xFF\xFF\x30\x60\xFF\xFF".as_slice(), 8),
         ("brid 8\n.space 0\nx: nop", 0, b"\xB8\x10\x00\x08\x80\x00\x00\x00".as_slice(), 8),
         (".org 8\n.org 8\nnop", 8, b"\x80\x00\x00\x00".as_slice(), 4),

@@ -6,6 +6,7 @@ use crate::text_of;
 fn words_have_their_texts(rt: HostRuntime) {
     for (word, text) in [
         (0x0060_F800u32, "add r3, r0, r31"), (0x8000_0000, "or r0, r0, r0"), (0x9064_0060, "sext8 r3, r4"),
+        (0x9083_00E0, "clz r4, r3"), (0x90A3_01E0, "swapb r5, r3"), (0x90C3_01E2, "swaph r6, r3"), (0x9083_01E1, ".word 0x908301E1"),
         (0x3060_0005, "addik r3, r0, 5"), (0x3060_FFFF, "addik r3, r0, -1"), (0xA460_8000, "andi r3, r0, -32768"),
         (0xE8A0_7FFF, "lwi r5, r0, 32767"), (0x6463_0401, "bslli r3, r3, 1"), (0x6463_001F, "bsrli r3, r3, 31"),
         (0x9800_1800, "br r3"), (0x9BEC_F800, "brk r31, r31"), (0xB800_0004, "bri 4"), (0xB800_FFFC, "bri -4"),

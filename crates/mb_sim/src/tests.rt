@@ -145,7 +145,7 @@ pub(crate) fn assembled(alloc: Global, words: &str) -> Result<Vec<u8>, Fail> {
 
 /// A program, what it prints in at most 100 cycles, and the status.
 #[rattlefmt::skip]
-const PROGRAMS: [(&str, &str, u8); 15] = [
+const PROGRAMS: [(&str, &str, u8); 17] = [
     // An addk keeps the carry.
     ("3060FFFF 30800001 00A32000 10C42000 94E08001 6C058000 6C068000 6C078000 B8000000", "0 00000000\n0 00000002\n0 80000004\n", 0),
     // A division by 0.
@@ -154,6 +154,10 @@ const PROGRAMS: [(&str, &str, u8); 15] = [
     ("3060FFFF 30800002 40A32002 6C058000 B8000000", "0 FFFFFFFF\n", 0),
     // -7 divided by 2.
     ("30600002 3080FFF9 48A32000 6C058000 B8000000", "0 FFFFFFFD\n", 0),
+    // Leading zeros, bytes reversed and halves swapped, of 1.
+    ("30600001 908300E0 90A301E0 90C301E2 6C048000 6C058000 6C068000 B8000000", "0 0000001F\n0 01000000\n0 00010000\n", 0),
+    // Leading zeros of 0 and of 80000000.
+    ("906000E0 B0008000 30800000 908400E0 6C038000 6C048000 B8000000", "0 00000020\n0 00000000\n", 0),
     // A get from a port that leads nowhere.
     ("6C600000 B8000000", "", 1),
     // A branch in a slot.

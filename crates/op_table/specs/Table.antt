@@ -6,12 +6,12 @@ use Rattle.op_table.specs.declared.entry.Row.{Row}
 use Rattle.op_table.specs.declared.form.Form.{Form}
 use Rattle.op_table.specs.declared.form.Form.TheVariants.{A, U, B, S, R, Rl, I, Il, Cr, Ci, M, N, T, E, G, P, Gd, Pd}
 use Rattle.op_table.specs.declared.kinds.Kind.{Kind}
-use Rattle.op_table.specs.declared.kinds.Kind.TheVariants.{Add, Rsub, Compare, Multiply, Shift, Divide, Logic, FirstEqualByte, IsEqual, ShiftByOne, ExtendSign, Cache, MoveFrom, MoveToMsr, SetMsr, ClearMsr, Branch, Break, BranchIf, Return, Prefix, Barrier, Load, Store, Get, Put}
+use Rattle.op_table.specs.declared.kinds.Kind.TheVariants.{Add, Rsub, Compare, Multiply, Shift, Divide, Logic, FirstEqualByte, IsEqual, ShiftByOne, Unary, Cache, MoveFrom, MoveToMsr, SetMsr, ClearMsr, Branch, Break, BranchIf, Return, Prefix, Barrier, Load, Store, Get, Put}
 use Rattle.op_table.specs.declared.kinds.LogicKind.TheVariants as logic
 use Rattle.op_table.specs.declared.kinds.MulKind.TheVariants as mul
 use Rattle.op_table.specs.declared.kinds.ShiftKind.TheVariants as shift
 use Rattle.op_table.specs.declared.kinds.TopBit.TheVariants as top
-use Rattle.op_table.specs.declared.kinds.Width.TheVariants as width
+use Rattle.op_table.specs.declared.kinds.UnaryKind.TheVariants as unary
 use Rattle.op_table.specs.declared.kinds.Special.TheVariants as special
 use Rattle.op_table.specs.declared.kinds.Condition.TheVariants as when
 use Rattle.op_table.specs.declared.kinds.Return.TheVariants as ret
@@ -102,12 +102,15 @@ rows =
     ∷ listed op.Pcmpeq (codes "pcmpeq") A 0x22 0x400 Register (IsEqual true)
     ∷ listed op.Andn (codes "andn") A 0x23 0x000 Register (Logic logic.Andn)
     ∷ listed op.Pcmpne (codes "pcmpne") A 0x23 0x400 Register (IsEqual false)
-    -- opcode 24: shifts by one and sign extensions
+    -- opcode 24: shifts by one, and what is made of one word
     ∷ listed op.Sra (codes "sra") U 0x24 0x0001 Register (ShiftByOne top.Sign)
     ∷ listed op.Src (codes "src") U 0x24 0x0021 Register (ShiftByOne top.Carry)
     ∷ listed op.Srl (codes "srl") U 0x24 0x0041 Register (ShiftByOne top.Zero)
-    ∷ listed op.Sext8 (codes "sext8") U 0x24 0x0060 Register (ExtendSign width.Byte)
-    ∷ listed op.Sext16 (codes "sext16") U 0x24 0x0061 Register (ExtendSign width.Half)
+    ∷ listed op.Sext8 (codes "sext8") U 0x24 0x0060 Register (Unary unary.ExtendByte)
+    ∷ listed op.Sext16 (codes "sext16") U 0x24 0x0061 Register (Unary unary.ExtendHalf)
+    ∷ listed op.Clz (codes "clz") U 0x24 0x00E0 Register (Unary unary.CountZeros)
+    ∷ listed op.Swapb (codes "swapb") U 0x24 0x01E0 Register (Unary unary.SwapBytes)
+    ∷ listed op.Swaph (codes "swaph") U 0x24 0x01E2 Register (Unary unary.SwapHalves)
     -- opcode 24: caches
     ∷ listed op.Wdc (codes "wdc") Cr 0x24 0x0064 Register Cache
     ∷ listed op.WdcFlush (codes "wdc.flush") Cr 0x24 0x0074 Register Cache

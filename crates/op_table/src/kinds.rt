@@ -31,7 +31,8 @@ pub enum Kind {
         wanted: bool,
     },
     ShiftByOne(TopBit),
-    ExtendSign(Width),
+    /// What is made of rA alone.
+    Unary(UnaryKind),
     /// The cache instructions do nothing.
     Cache,
     MoveFrom(Special),
@@ -71,13 +72,6 @@ pub enum TopBit {
     Sign,
     Carry,
     Zero,
-}
-
-/// What part of a register is extended.
-#[derive(Clone, Copy, Debug, PartialEq, Eq)]
-pub enum Width {
-    Byte,
-    Half,
 }
 
 /// The special registers that `mfs` reads.
@@ -130,6 +124,21 @@ pub enum LogicKind {
     Or,
     Xor,
     Andn,
+}
+
+/// What is made of one word.
+#[derive(Clone, Copy, Debug, PartialEq, Eq)]
+pub enum UnaryKind {
+    /// Its low byte with the sign.
+    ExtendByte,
+    /// Its low half with the sign.
+    ExtendHalf,
+    /// How many zeros stand above its highest bit that is set.
+    CountZeros,
+    /// Its bytes in the reverse order.
+    SwapBytes,
+    /// Its halves in the reverse order.
+    SwapHalves,
 }
 
 /// Which word of a product is wanted, and which operands have signs.

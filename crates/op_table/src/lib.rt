@@ -22,7 +22,8 @@ mod tests;
 pub use entry::Row;
 pub use form::{Field, Form, Part};
 pub use kinds::{
-    Condition, Kind, Latency, LogicKind, MulKind, Return, Second, ShiftKind, Special, TopBit, Width,
+    Condition, Kind, Latency, LogicKind, MulKind, Return, Second, ShiftKind, Special, TopBit,
+    UnaryKind,
 };
 pub use lookup::{
     at_most_one_row, belongs_into_slot, candidates, every_row_is_known, is_store, kind_of,

@@ -53,12 +53,15 @@ pub enum Op {
     Pcmpeq,
     Andn,
     Pcmpne,
-    // Opcode 24: shifts by one and sign extensions.
+    // Opcode 24: shifts by one, and what is made of one word.
     Sra,
     Src,
     Srl,
     Sext8,
     Sext16,
+    Clz,
+    Swapb,
+    Swaph,
     // Opcode 24: caches.
     Wdc,
     WdcFlush,

@@ -5,14 +5,14 @@ ghost use Rattle.std.specs.Prelude.{◌≡◌};
 use crate::entry::Row;
 use crate::form::{Field, Form, Part};
 use crate::kinds::{
-    Condition, Kind, Latency, LogicKind, MulKind, Return, Second, ShiftKind, Special, TopBit, Width,
+    Condition, Kind, Latency, LogicKind, MulKind, Return, Second, ShiftKind, Special, TopBit, UnaryKind,
 };
 use crate::mnemonic::Mnemonic;
 use crate::op::Op;
 use core_regs::Size;
 
 /// How many rows the table has.
-pub const COUNT: usize = 120;
+pub const COUNT: usize = 123;
 
 /// A field that holds a part in so many bits from a bit on.
 macro_rules! field {
@@ -211,12 +211,15 @@ pub static ROWS: [Row; COUNT] = [
     row!(Pcmpeq   b"pcmpeq"    A  0x8800_0400 Register  Single   slot    IsEqual { wanted: true }),
     row!(Andn     b"andn"      A  0x8C00_0000 Register  Single   slot    Logic(LogicKind::Andn)),
     row!(Pcmpne   b"pcmpne"    A  0x8C00_0400 Register  Single   slot    IsEqual { wanted: false }),
-    // Opcode 24: shifts by one and sign extensions.
+    // Opcode 24: shifts by one, and what is made of one word.
     row!(Sra      b"sra"       U  0x9000_0001 Register  Single   slot    ShiftByOne(TopBit::Sign)),
     row!(Src      b"src"       U  0x9000_0021 Register  Single   slot    ShiftByOne(TopBit::Carry)),
     row!(Srl      b"srl"       U  0x9000_0041 Register  Single   slot    ShiftByOne(TopBit::Zero)),
-    row!(Sext8    b"sext8"     U  0x9000_0060 Register  Single   slot    ExtendSign(Width::Byte)),
-    row!(Sext16   b"sext16"    U  0x9000_0061 Register  Single   slot    ExtendSign(Width::Half)),
+    row!(Sext8    b"sext8"     U  0x9000_0060 Register  Single   slot    Unary(UnaryKind::ExtendByte)),
+    row!(Sext16   b"sext16"    U  0x9000_0061 Register  Single   slot    Unary(UnaryKind::ExtendHalf)),
+    row!(Clz      b"clz"       U  0x9000_00E0 Register  Single   slot    Unary(UnaryKind::CountZeros)),
+    row!(Swapb    b"swapb"     U  0x9000_01E0 Register  Single   slot    Unary(UnaryKind::SwapBytes)),
+    row!(Swaph    b"swaph"     U  0x9000_01E2 Register  Single   slot    Unary(UnaryKind::SwapHalves)),
     // Opcode 24: caches.
     row!(Wdc      b"wdc"       Cr 0x9000_0064 Register  None     slot    Cache),
     row!(WdcFlush b"wdc.flush" Cr 0x9000_0074 Register  None     slot    Cache),

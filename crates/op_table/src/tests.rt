@@ -25,6 +25,7 @@ fn second_of_form(row: &Row) -> Second {
 
 #[test]
 fn lists_each_instruction_once(rt: HostRuntime) {
+    assert!(rt; COUNT == 123, "{COUNT} rows");
     for k in 0..COUNT {
         let listed = row(k);
         assert!(rt; listed.is_some(), "place {k}");
@@ -79,6 +80,8 @@ fn rows_are_those_of_the_guide(rt: HostRuntime) {
         (Form::A, 0xFC00_07FF, 0x8800_0400, opcode, "pcmpeq pcmpne"),
         (Form::U, 0xFC00_FFFF, 0x9000_0001, 0x20, "sra src srl"),
         (Form::U, 0xFC00_FFFF, 0x9000_0060, 1, "sext8 sext16"),
+        (Form::U, 0xFC00_FFFF, 0x9000_00E0, 0, "clz"),
+        (Form::U, 0xFC00_FFFF, 0x9000_01E0, 2, "swapb swaph"),
         (Form::Cr, 0xFFE0_07FF, 0x9000_0064, 0x10, "wdc wdc.flush"),
         (Form::Cr, 0xFFE0_07FF, 0x9000_0066, 2, "wdc.clear wic"),
         (Form::M, 0xFC1F_FFFF, 0x9400_8000, 1, "mfs mfs"),

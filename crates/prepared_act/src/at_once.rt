@@ -4,8 +4,7 @@ ghost use Rattle.std.specs.Prelude.{◌≡◌, ◌<◌, ℕ, List, Some, ◌+◌
 ghost use Rattle.core_regs.specs.State.{bare, reg, with_reg};
 ghost use Rattle.delay_imm.specs.Slots.{advanced, branched, immediate_of};
 ghost use Rattle.mb_word.specs.Word.{bit_of};
-ghost use Rattle.isa_step.specs.Arithmetic.{adds, subtracts, sums, shifts_by_one, bits_of};
-ghost use Rattle.alu_units.specs.Units.{sign_extended};
+ghost use Rattle.isa_step.specs.Arithmetic.{adds, subtracts, sums, shifts_by_one};
 ghost use Rattle.isa_step.specs.Branches.{branches, branches_if, holds, returns};
 ghost use Rattle.op_table.specs.Table.{kind_of, second_of};
 ghost use Rattle.op_table.specs.declared.kinds.Return.TheVariants.{Subroutine};
@@ -19,14 +18,14 @@ use crate::accessing::{leaves, loads, stores};
 use crate::flow::Flow;
 use crate::prepared::Prepared;
 use alu_units::{
-    adder, barrel, compare, logic, multiply, pattern, pcmpeq, pcmpne, sext8, sext16, sra, src, srl,
+    adder, barrel, compare, logic, multiply, pattern, pcmpeq, pcmpne, sra, src, srl, unary,
 };
 use byte_mem::Memory;
 use core_regs::{Arch, Msr};
 use delay_imm::{advance, branch, hold_prefix, immediate};
 use mb_decode::Instr;
 use mb_word::{Sum, is_negative};
-use op_table::{Condition, Kind, Return, Second, TopBit, Width};
+use op_table::{Condition, Kind, Return, Second, TopBit};
 
 /// 16 bits below those of a prefix.
 #[inline(always)]
@@ -111,16 +110,6 @@ fn holds(condition: Condition, x: u32) -> bool
         Condition::LessOrEqual => negative || x == 0,
         Condition::Greater => !(negative || x == 0),
         Condition::GreaterOrEqual => !negative,
-    }
-}
-
-#[inline(always)]
-fn extends_sign(part: Width, x: u32) -> u32
-    ensures { result ≡ sign_extended (bits_of part) x }
-{
-    match part {
-        Width::Byte => sext8(x),
-        Width::Half => sext16(x),
     }
 }
 
@@ -225,8 +214,8 @@ fn retire_kind(kind: &Kind, i: &Instr, a: &mut Arch, m: &mut Memory, x: u32, y: 
             shifts_by_one(i, a, top, x, y);
             Some(Flow::On)
         }
-        Kind::ExtendSign(part) => {
-            leaves(i.rd, a, extends_sign(part, x));
+        Kind::Unary(operation) => {
+            leaves(i.rd, a, unary(x, operation));
             Some(Flow::On)
         }
         Kind::Branch {

@@ -8,7 +8,7 @@ use std::test::Fail;
 /// A word at 10 hex with the values of r3 and r4 and the carry; r5, the carry, pc after its act, and where it leads.
 type Row = (u32, u32, u32, bool, u32, bool, u32, Flow);
 
-const ROWS: [Row; 18] = [
+const ROWS: [Row; 21] = [
     // add, addc and rsubk r5, r3, r4
     (0x00A3_2000, 0xFFFF_FFFF, 1, false, 0, true, 0x14, Flow::On),
     (0x08A3_2000, 5, 6, true, 12, false, 0x14, Flow::On),
@@ -45,6 +45,28 @@ const ROWS: [Row; 18] = [
         0,
         false,
         0xFFFF_FF80,
+        false,
+        0x14,
+        Flow::On,
+    ),
+    // clz, swapb and swaph r5, r3: the carry stays
+    (0x90A3_00E0, 0, 0, true, 32, true, 0x14, Flow::On),
+    (
+        0x90A3_01E0,
+        0x1122_3344,
+        0,
+        false,
+        0x4433_2211,
+        false,
+        0x14,
+        Flow::On,
+    ),
+    (
+        0x90A3_01E2,
+        0x1122_3344,
+        0,
+        false,
+        0x3344_1122,
         false,
         0x14,
         Flow::On,

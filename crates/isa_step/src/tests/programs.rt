@@ -8,7 +8,7 @@ use std::test::Fail;
 /// A program, the words that it sends, and its end.
 type Row = (&'static str, &'static [u32], &'static [u32], Idle);
 
-const ROWS: [Row; 15] = [
+const ROWS: [Row; 16] = [
     (
         "an addk keeps the carry",
         &[
@@ -52,6 +52,21 @@ const ROWS: [Row; 15] = [
             0xB800_0000,
         ],
         &[0, 0x40],
+        Idle::Ended,
+    ),
+    (
+        "leading zeros, bytes and halves of 1",
+        &[
+            0x3060_0001,
+            0x9083_00E0,
+            0x90A3_01E0,
+            0x90C3_01E2,
+            0x6C04_8000,
+            0x6C05_8000,
+            0x6C06_8000,
+            0xB800_0000,
+        ],
+        &[0x1F, 0x0100_0000, 0x0001_0000],
         Idle::Ended,
     ),
     (
