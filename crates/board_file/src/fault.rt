@@ -56,9 +56,9 @@ pub enum BoardRule {
     BadBase,
     /// 614: an input of an interrupt controller that another device uses, too, or a second controller of a core.
     InterruptTwice,
-    /// 615: more than 16 cores.
+    /// 615: more cores than the version lets be, 16 or 64.
     TooManyCores,
-    /// 616: more than 64 links.
+    /// 616: more links than the version lets be, 64 or 256.
     TooManyLinks,
     /// 617: a device on a network board.
     DeviceOnNetwork,
