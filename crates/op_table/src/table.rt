@@ -5,7 +5,8 @@ ghost use Rattle.std.specs.Prelude.{◌≡◌};
 use crate::entry::Row;
 use crate::form::{Field, Form, Part};
 use crate::kinds::{
-    Condition, Kind, Latency, LogicKind, MulKind, Return, Second, ShiftKind, Special, TopBit, UnaryKind,
+    Condition, Kind, Latency, LogicKind, MulKind, Return, Second, ShiftKind, Special, TopBit,
+    UnaryKind,
 };
 use crate::mnemonic::Mnemonic;
 use crate::op::Op;
