@@ -17,5 +17,5 @@ invariant_of-result c = (
   rw c.in_ok-copied_uarts.ensures (all_of (λ (r : UartRow). IfSome r.irq (λ n. n < 32)) c.args.uarts.now (λ k row q. (c.requires.uarts k row q).0)),
   rw c.in_ok-copied_timers.ensures (all_of (λ (r : TimerRow). 0 < r.clock) c.args.timers.now (λ k row q. (c.requires.timers k row q).1)),
   rw c.in_ok-copied_intcs.ensures (all_of (λ (r : IntcRow). 0 < r.clock) c.args.intcs.now c.requires.intcs),
-  rw c.in_ok-copied_uarts.ensures (all_of (λ (r : UartRow). (0 < r.every) × (0 < r.clock)) c.args.uarts.now (λ k row q. (c.requires.uarts k row q).1)),
+  rw c.in_ok-copied_uarts.ensures (all_of (λ (r : UartRow). (0 < r.every) × (0 < r.clock)) c.args.uarts.now (λ k row q. ((c.requires.uarts k row q).1, (c.requires.uarts k row q).2))),
 )
