@@ -116,7 +116,7 @@ fn is_buildable(file: &BoardFile) -> bool
     if file.cores.len() > 64 || file.links.len() > 256 {
         return false;
     }
-    if file.timers.len() > 0 || file.uarts.len() > 0 {
+    if file.timers.len() > 0 || file.intcs.len() > 0 || file.uarts.len() > 0 {
         return false;
     }
     if !has_clocks(file.cores.as_slice()) {
