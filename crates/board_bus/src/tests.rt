@@ -1,3 +1,5 @@
+ghost use Rattle.std.specs.Prelude.{◌≤◌};
+
 use crate::Bus;
 use board_file::{IntcRow, TimerRow, UartRow};
 use bus_map::BadAccess;
@@ -17,7 +19,10 @@ fn bus_of(alloc: Global, bytes: &[u8]) -> Result<Bus, Fail> {
 }
 
 /// The same where the timer and the UART have the first clock, and the controller has the second.
-fn clocked(alloc: Global, bytes: &[u8], clock: u32, intc_clock: u32) -> Result<Bus, Fail> {
+fn clocked(alloc: Global, bytes: &[u8], clock: u32, intc_clock: u32) -> Result<Bus, Fail>
+    requires clock { 1 ≤ clock }
+    requires intc_clock { 1 ≤ intc_clock }
+{
     let timers = [TimerRow {
         name: Name::from_text("t").ok_or("a name")?,
         core: 0,
